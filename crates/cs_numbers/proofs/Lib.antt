@@ -4,4 +4,6 @@ pub mod Walks
 pub mod Numbered
 pub mod Tables
 pub mod Looked
-pub mod Arguments
+pub mod Marked
+pub mod Forest
+pub mod Backwards

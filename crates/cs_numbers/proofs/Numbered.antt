@@ -41,7 +41,7 @@ at_end (z ∷ zs) y x (suc k) e = elim (at_end zs y x k e) [ inl h ↦ inl h | i
 pub record Distinct (terms : List Term) : Type 0 where
   pub one : (j k : ℕ) (t : Term) → At terms j t → At terms k t → j ≡ k
 
-has_in : (terms : List Term) (t : Term) → Contains terms t → has terms t ≡ true
+pub has_in : (terms : List Term) (t : Term) → Contains terms t → has terms t ≡ true
 has_in [] t (n, e) = cc
 has_in (u ∷ us) t (zero, e) = ap (λ b. b || has us t) (ap (same t) (some_is e) ∙ term_same t)
 has_in (u ∷ us) t (suc n, e) = go (same t u) (has_in us t (n, e))

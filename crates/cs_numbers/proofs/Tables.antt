@@ -76,7 +76,7 @@ pub numbers_more : NumbersMore
 numbers_more s t k = added_more s.terms (subterms t) (fixed s.terms (ready s.terms k).one)
 
 -- ---- the places of terms
-place_at : (terms : List Term) (t : Term) (k : ℕ) → place terms t ≡ Some k → At terms k t
+pub place_at : (terms : List Term) (t : Term) (k : ℕ) → place terms t ≡ Some k → At terms k t
 place_at [] t k e = cc
 place_at (u ∷ us) t k e = go (same t u) refl e (place_at us t)
   where

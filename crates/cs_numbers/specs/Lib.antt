@@ -2,5 +2,8 @@ pub mod Parts
 pub mod Keys
 pub mod Listed
 pub mod Numbering
+pub mod Marks
+pub mod Inner
+pub mod Forest
 pub mod Laws
 pub mod Examples

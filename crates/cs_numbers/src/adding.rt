@@ -1,73 +1,103 @@
 //! Terms get their numbers one after another: a term before its parts, from left to right.
-ghost use Rattle.std.specs.Prelude.{◌≡◌, map, IfOk, [], reverse};
-ghost use Rattle.vx_terms.specs.Views.{term, terms};
-ghost use Rattle.cs_certificate.specs.Terms.{subterms, all_subterms, parts_of};
+//! What stands in a term that has a number isn't walked again.
+ghost use Rattle.std.specs.Prelude.{◌≡◌, ◌<◌, ◌++◌, List, map, length, IfOk, IfSome, IfNone, Some, [], ◌∷◌, slice_get, reverse};
+ghost use Rattle.vx_terms.specs.Terms as spec;
+ghost use Rattle.vx_terms.specs.Views.{term};
+ghost use Rattle.cs_certificate.specs.Terms.{subterms, parts_of};
 ghost use Rattle.cs_numbers.specs.Listed.{terms_in};
-ghost use Rattle.cs_numbers.specs.Numbering.{has, with_one, added};
+ghost use Rattle.cs_numbers.specs.Forest.{seen, IsForest};
+ghost use Rattle.cs_numbers.specs.Inner.{inner};
+ghost use Rattle.cs_numbers.specs.Numbering.{with_one, added};
 
 use crate::NumberedTerms;
-use crate::table::place;
+use crate::occurrence::Occurrence;
+use crate::occurring::put;
+use crate::table::place_under;
 use std::alloc::{AllocError, Global};
 use std::rc::Rc;
-use vx_terms::{Term, Terms};
+use vx_terms::Term;
 
-/// Whether a term has a number.
-#[tactic(auto, using(crate::proofs::Looked::has_placed))]
-fn has(all: &NumberedTerms, t: &Term) -> bool
-    ensures { result ≡ has (terms_in all.now) (term t.now) }
+/// A further term, and its number.
+fn push(all: &mut NumberedTerms, t: &Occurrence) -> Result<u32, AllocError>
+    ensures terms { IfOk result (λ n. terms_in all.new ≡ terms_in all.old ++ term t.now.of.value ∷ []) }
+    ensures number { IfOk result (λ n. n ≡ length (terms_in all.old)) }
 {
-    place(all, t).is_some()
+    all.make_room()?;
+    let number = all.push(t.of.clone()?, t.key)?;
+    Ok(number)
 }
 
-/// A term that has no number yet gets the next one.
-fn add_one(all: &mut NumberedTerms, t: &Rc<Term>) -> Result<(), AllocError>
-    ensures { IfOk result (λ u. terms_in all.new ≡ with_one (terms_in all.old) (term t.now.value)) }
+/// The number of a term; a term that has none yet gets the next one.
+fn add_one(all: &mut NumberedTerms, t: &Occurrence) -> Result<u32, AllocError>
+    ensures terms { IfOk result (λ n. terms_in all.new ≡ with_one (terms_in all.old) (term t.now.of.value)) }
+    ensures number { IfOk result (λ n. slice_get (terms_in all.new) n ≡ Some (term t.now.of.value)) }
 {
-    if has(all, t) {
+    if let Some(number) = place_under(all, &t.of, t.key) {
+        return Ok(number);
+    }
+    let number = push(all, t)?;
+    Ok(number)
+}
+
+/// The last of some terms, what stands in it, and the others.
+fn parted(left: &[Occurrence]) -> Option<(&Occurrence, &[Occurrence], &[Occurrence])>
+    requires { IsForest (seen left.now) }
+    ensures none { IfNone result (left.now ≡ []) }
+    ensures smaller { IfSome result (λ p. length p.1.now < length left.now) }
+    ensures fewer { IfSome result (λ p. length p.2.now < length left.now) }
+    ensures within { IfSome result (λ p. seen p.1.now ≡ reverse (inner (term p.0.now.of.value))) }
+    ensures others { IfSome result (λ p. IsForest (seen p.2.now)) }
+    ensures same { IfSome result (λ p. (terms : List spec.Term) → added terms (reverse (seen left.now)) ≡ added (added terms (subterms (term p.0.now.of.value))) (reverse (seen p.2.now))) }
+{
+    let Some((last, before)) = left.split_last() else {
+        return None;
+    };
+    let at = before.len().saturating_sub(last.within);
+    let (others, within) = before.split_at(at);
+    Some((last, within, others))
+}
+
+/// Numbers a term and what stands in it, where they have no numbers yet.
+#[cycle(adding)]
+#[tactic(auto, using(crate::proofs::Forest::forest_within))]
+fn add_with(
+    all: &mut NumberedTerms,
+    t: &Occurrence,
+    within: &[Occurrence],
+) -> Result<(), AllocError>
+    requires { seen within.now ≡ reverse (inner (term t.now.of.value)) }
+    ensures { IfOk result (λ u. terms_in all.new ≡ added (terms_in all.old) (subterms (term t.now.of.value))) }
+{
+    let number = add_one(all, t)?;
+    if all.is_marked(number) {
         return Ok(());
     }
-    all.push(t.clone()?)?;
+    add_all(all, within)?;
+    all.mark(number);
+    Ok(())
+}
+
+/// Numbers terms from the last one on, where they have no numbers yet.
+#[cycle(adding)]
+fn add_all(all: &mut NumberedTerms, occurrences: &[Occurrence]) -> Result<(), AllocError>
+    requires { IsForest (seen occurrences.now) }
+    ensures { IfOk result (λ u. terms_in all.new ≡ added (terms_in all.old) (reverse (seen occurrences.now))) }
+{
+    let mut left = occurrences;
+    while let Some((last, within, others)) = parted(left) {
+        add_with(all, last, within)?;
+        left = others;
+    }
     Ok(())
 }
 
 /// Numbers a term and its parts, where they have no numbers yet.
-#[cycle(adding)]
-#[tactic(auto, using(crate::proofs::Added::added_append))]
 pub fn add(all: &mut NumberedTerms, t: &Rc<Term>) -> Result<(), AllocError>
     ensures { IfOk result (λ u. terms_in all.new ≡ added (terms_in all.old) (subterms (term t.now.value))) }
 {
-    add_one(all, t)?;
-    match &**t {
-        Term::Truth(_) | Term::Number(_) | Term::Part(_) | Term::Constant(_, _) => Ok(()),
-        Term::Apply(_, _, parts) | Term::AllOf(parts) | Term::SomeOf(parts) => {
-            add_list(all, parts)
-        }
-        Term::Not(a) => add(all, a),
-        Term::Binary(_, a, b) => {
-            add(all, a)?;
-            add(all, b)
-        }
-        Term::Ite(c, a, b) => {
-            add(all, c)?;
-            add(all, a)?;
-            add(all, b)
-        }
-    }
-}
-
-/// Numbers the parts of an application.
-#[cycle(adding)]
-#[tactic(auto, using(crate::proofs::Added::added_append))]
-fn add_list(all: &mut NumberedTerms, parts: &Rc<Terms>) -> Result<(), AllocError>
-    ensures { IfOk result (λ u. terms_in all.new ≡ added (terms_in all.old) (all_subterms (terms parts.now.value))) }
-{
-    match &**parts {
-        Terms::None => Ok(()),
-        Terms::More(t, rest) => {
-            add(all, t)?;
-            add_list(all, rest)
-        }
-    }
+    let mut occurrences = Vec::new(all.alloc);
+    put(&mut occurrences, t)?;
+    add_all(all, &occurrences)
 }
 
 /// The numbered terms of some assertions, in order.

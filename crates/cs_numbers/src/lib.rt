@@ -6,6 +6,8 @@ ghost use Rattle.cs_numbers.specs.Examples.{Examples};
 
 mod adding;
 mod key;
+mod occurrence;
+mod occurring;
 mod parts;
 mod table;
 mod terms;

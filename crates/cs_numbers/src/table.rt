@@ -6,6 +6,7 @@ ghost use Rattle.cs_table.specs.Views as views;
 ghost use Rattle.cs_table.specs.Gives.{Gives};
 ghost use Rattle.cs_index.specs.Found.{passes_at};
 ghost use Rattle.vx_terms.specs.Terms.{same};
+ghost use Rattle.cs_numbers.specs.Keys.{term_key};
 ghost use Rattle.cs_numbers.specs.Listed.{terms_in};
 ghost use Rattle.cs_numbers.specs.Numbering as clean;
 
@@ -26,16 +27,24 @@ fn is_at(all: &[Rc<Term>], number: u32, t: &Term) -> bool
     }
 }
 
-/// The number of a term.
-pub fn place(all: &NumberedTerms, t: &Term) -> Option<u32>
+/// The number of a term with this key.
+pub fn place_under(all: &NumberedTerms, t: &Term, key: u64) -> Option<u32>
+    requires { key ≡ term_key (term t.now) }
     ensures { result ≡ clean.place (terms_in all.now) (term t.now) }
 {
-    for number in all.index.under(key(t)) {
+    for number in all.index.under(key) {
         if is_at(&all.terms, *number, t) {
             return Some(*number);
         }
     }
     None
+}
+
+/// The number of a term.
+fn place(all: &NumberedTerms, t: &Term) -> Option<u32>
+    ensures { result ≡ clean.place (terms_in all.now) (term t.now) }
+{
+    place_under(all, t, key(t))
 }
 
 /// The number of a term.

@@ -1,15 +1,18 @@
-use Rattle.cs_numbers.proofs.Added.{added_append}
-use Rattle.std.proofs.Common.{arith, rules}
+use Rattle.std.proofs.Common.{◌≡◌, reverse, ◌∙◌, ap}
+use Rattle.std.proofs.lemmas.List.{reverse-reverse}
+use Rattle.vx_terms.specs.Views.{term}
+use Rattle.cs_numbers.specs.Listed.{terms_in}
+use Rattle.cs_numbers.specs.Inner.{inner}
+use Rattle.cs_numbers.specs.Numbering.{added}
+use Rattle.cs_numbers.proofs.Marked.{known, whole_now}
 use Rattle.cs_numbers.proofs.adding.+adding.Goals as goal
 
-pub add-returns-in_ok-add-in-Binary : goal.add-returns-in_ok-add-in-Binary
-add-returns-in_ok-add-in-Binary t c = grind (arith, added_append)
+pub add_with-returns-then-is_marked : goal.add_with-returns-then-is_marked
+add_with-returns-then-is_marked t c =
+    known (terms_in c.args.all.now) (terms_in c.add_one.new.all) (term c.args.t.now.of.value) c.in_ok-number.number c.in_ok-number.ensures.terms c.in_ok-number.ensures.number (c.is_marked.ensures c.if-is_marked.true)
 
-pub add-returns-in_ok-add-in-Ite-2 : goal.add-returns-in_ok-add-in-Ite-2
-add-returns-in_ok-add-in-Ite-2 t c = grind (arith, added_append)
-
-pub add_list-returns-in_ok-add-in-More : goal.add_list-returns-in_ok-add-in-More
-add_list-returns-in_ok-add-in-More t c = grind (arith, added_append)
-
-pub add-returns-in-Not : goal.add-returns-in-Not
-add-returns-in-Not t c = search rules
+pub add_with-mark-requires : goal.add_with-mark-requires
+add_with-mark-requires t c =
+    let u = term c.args.t.now.of.value in
+    let end : terms_in c.add_all.new.all ≡ added (terms_in c.add_one.new.all) (inner u) = c.in_ok-add_all.ensures ∙ ap (λ xs. added (terms_in c.add_one.new.all) (reverse xs)) c.requires ∙ ap (added (terms_in c.add_one.new.all)) (reverse-reverse (inner u)) in
+    whole_now (terms_in c.args.all.now) (terms_in c.add_one.new.all) (terms_in c.add_all.new.all) u c.in_ok-number.number c.in_ok-number.ensures.terms c.in_ok-number.ensures.number end

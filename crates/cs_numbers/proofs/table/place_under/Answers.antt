@@ -7,11 +7,11 @@ use Rattle.cs_index.specs.Under.{under}
 use Rattle.cs_index.proofs.Indexed.{found_here}
 use Rattle.cs_numbers.specs.Listed.{terms_in}
 use Rattle.cs_numbers.proofs.Looked.{looked_up}
-use Rattle.cs_numbers.proofs.table.place.Goals as goal
+use Rattle.cs_numbers.proofs.table.place_under.Goals as goal
 
 pub loop-number-init : goal.loop-number-init
 loop-number-init c =
-    ap (found (same (term c.args.t.now)) (terms_in c.args.all.now)) (c.under-number-items.ensures ∙ ap (under c.args.all.now.index) c.key.ensures)
+    ap (found (same (term c.args.t.now)) (terms_in c.args.all.now)) (c.under-number-items.ensures ∙ ap (under c.args.all.now.index) c.requires)
     ∙ looked_up (terms_in c.args.all.now) c.args.all.now.index (term c.args.t.now) c.args.all.now.indexed
 
 pub returns-then-is_at : goal.returns-then-is_at
