@@ -283,4 +283,31 @@ impl Claims {
             None => Ok(None),
         }
     }
+
+    /// The equality of a claim that it doesn't hold, if its terms are equal.
+    fn joined_by(&self, record: &Record, claim: Claim) -> Result<Option<u32>, Stop> {
+        let Claim::Equality(number, false) = claim else {
+            return Ok(None);
+        };
+        let (a, b) = self.ends(record, claim)?;
+        if self.held.class_of(a)? == self.held.class_of(b)? {
+            Ok(Some(number))
+        } else {
+            Ok(None)
+        }
+    }
+
+    /// The equalities that are claimed not to hold, and whose terms are equal.
+    ///
+    /// # Errors
+    /// `Miss` where a claim's number isn't an equality's; `Want` where memory runs out.
+    pub fn joined(&self, alloc: Global, record: &Record) -> Result<Vec<u32>, Stop> {
+        let mut found = Vec::new(alloc);
+        for claim in &self.made {
+            if let Some(number) = self.joined_by(record, *claim)? {
+                found.push(number)?;
+            }
+        }
+        Ok(found)
+    }
 }

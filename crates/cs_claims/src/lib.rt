@@ -6,3 +6,4 @@ pub mod claims;
 pub mod farkas;
 pub mod held;
 pub mod lemma;
+pub mod shortcuts;

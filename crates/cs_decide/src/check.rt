@@ -15,8 +15,9 @@ use crate::forced::reasons;
 use crate::misread::misread;
 use crate::model::model_of;
 use cs_answer::{Answer, certified, evaluated};
-use cs_claims::claims::Claims;
+use cs_claims::claims::{Claim, Claims};
 use cs_claims::lemma::lemma_of;
+use cs_claims::shortcuts::Shortcuts;
 use cs_columns::Stop;
 use cs_index::mix;
 use cs_meter::Meter;
@@ -32,7 +33,7 @@ use cs_search::assignment::Assignment;
 use cs_search::examine::status;
 use cs_search::learn::learn;
 use cs_search::order::Order;
-use cs_search::search::{Hints, Search, Solved, Undecided, solve};
+use cs_search::search::{Hints, Search, Solved, Undecided, solve, spend};
 use cs_search::{Clause, Literal, Status, Value};
 use std::alloc::Global;
 use std::rc::Rc;
@@ -47,6 +48,7 @@ struct Check {
     // how many of the clauses that the search derived have their steps
     told: usize,
     claims: Claims,
+    shortcuts: Shortcuts,
     figures: Figures,
     // how many terms are those of the assertions
     live: u32,
@@ -60,6 +62,7 @@ impl Drop for Check {
             numbers,
             told,
             claims,
+            shortcuts,
             figures,
             live,
         } = self;
@@ -103,6 +106,7 @@ impl Check {
             numbers,
             told: 0,
             claims,
+            shortcuts: Shortcuts::new(alloc),
             figures,
             live,
         };
@@ -208,6 +212,33 @@ impl Check {
             &self.claims,
             meter,
         )
+    }
+
+    /// The next shortcut along the path that breaks a claim.
+    fn shortcut(
+        &mut self,
+        alloc: Global,
+        values: &[Value],
+        broken: Claim,
+    ) -> Result<Option<Lemma>, Stop> {
+        Ok(
+            self.shortcuts.next(
+                alloc,
+                &mut self.record,
+                &self.claims,
+                &self.atoms,
+                values,
+                broken,
+            )?,
+        )
+    }
+
+    /// The equalities of a shortcut are claimed from now on.
+    fn meet_shortcut(&mut self, alloc: Global, shortcut: &Lemma) -> Result<Vec<Literal>, Stop> {
+        for literal in &shortcut.literals {
+            self.claims.add(&self.record, literal.number)?;
+        }
+        Ok(self.atoms.literals(alloc, &shortcut.literals)?)
     }
 
     /// The atoms of a clause of cases are compared and claimed from now on.
@@ -365,6 +396,60 @@ fn figured(
     }
 }
 
+/// The search gets the clause of a shortcut, whose last equality is tried first.
+///
+/// # Errors
+/// `Budget` where no unit is left; `Want` where memory runs out.
+fn take_shortcut(
+    alloc: Global,
+    check: &mut Check,
+    search: &mut Search,
+    shortcut: &Lemma,
+    meter: &mut Meter,
+) -> Result<(), Stop>
+    requires sound { IsReady search.old }
+    ensures ready { OnOk result (IsReady search.new) }
+    ensures kept { meter.old.spent ≤ meter.new.spent }
+{
+    if !spend(meter) {
+        return Err(Stop::Budget);
+    }
+    let literals = check.meet_shortcut(alloc, shortcut)?;
+    if let Some(literal) = literals.last() {
+        prefer(&mut search.order, literal.number, true)?;
+    }
+    check.numbers.push(shortcut.number)?;
+    add(search, Clause { literals })?;
+    Ok(())
+}
+
+/// A broken claim teaches a lemma, and a shortcut where it leads over one.
+fn refuse(
+    alloc: Global,
+    stack: &Stack,
+    check: &mut Check,
+    search: &mut Search,
+    broken: Claim,
+    meter: &mut Meter,
+) -> Result<Option<Answer>, Stop>
+    requires sound { IsReady search.old }
+    requires satisfied { AreSatisfied search.old.clauses.items search.old.made.values.items }
+    ensures answered { IfOk result (λ found. IfSome found (IsRight (seen stack.now))) }
+    ensures ready { IfOk result (λ found. IfNone found (IsReady search.new)) }
+    ensures spends { IfOk result (λ found. IfNone found (meter.old.spent < meter.new.spent)) }
+    ensures kept { (result ≡ Err Stop.Want → ⊥) → meter.old.spent ≤ meter.new.spent }
+{
+    let lemma = lemma_of(alloc, &mut check.record, &check.claims, broken)?;
+    let shortcut = check.shortcut(alloc, &search.made.values, broken)?;
+    if let Some(answer) = take_lemma(alloc, stack, check, search, &lemma, meter)? {
+        return Ok(Some(answer));
+    }
+    if let Some(shortcut) = shortcut {
+        take_shortcut(alloc, check, search, &shortcut, meter)?;
+    }
+    Ok(None)
+}
+
 /// The search has an assignment: a broken claim teaches a lemma, and without one numbers go on.
 fn assigned(
     alloc: Global,
@@ -385,10 +470,7 @@ fn assigned(
         .claims
         .make(alloc, &check.record, &check.atoms, &search.made.values)?;
     match check.claims.broken()? {
-        Some(broken) => {
-            let lemma = lemma_of(alloc, &mut check.record, &check.claims, broken)?;
-            take_lemma(alloc, stack, check, search, &lemma, meter)
-        }
+        Some(broken) => refuse(alloc, stack, check, search, broken, meter),
         None => figured(alloc, stack, check, search, meter),
     }
 }
