@@ -5,7 +5,8 @@ use crate::held::Held;
 use cs_proof::Step;
 use cs_record::atoms::Atoms;
 use cs_record::numbered::Record;
-use cs_search::Value;
+use cs_search::examine::same;
+use cs_search::{Entry, Literal, Value};
 use cs_table::{Head, Node, Stop, equality};
 use std::alloc::Global;
 use std::collections::HashSet;
@@ -73,15 +74,15 @@ fn is_equal(claim: Claim) -> bool {
 #[derive(Drop)]
 pub struct Claims {
     pub held: Held,
-    // the equalities that are atoms, and are numbered before their other orders
-    equalities: Vec<u32>,
-    // these, and those that came later, by number
-    known: HashSet<u32>,
+    // the equalities that are atoms, and are numbered before their other orders; and those that came later
+    equalities: HashSet<u32>,
     // the Bool terms under symbols, and the Bool applications of symbols
-    bools: Vec<u32>,
+    bools: HashSet<u32>,
     // these, if there are such Bool terms
     pub truths: Option<Truths>,
     made: Vec<Claim>,
+    // the literals of which all is claimed, in the order in which they became true
+    followed: Vec<Literal>,
 }
 
 /// An atom's value.
@@ -178,18 +179,17 @@ impl Claims {
     /// # Errors
     /// `Want` where memory runs out.
     pub fn new(alloc: Global, record: &mut Record, atoms: &Atoms) -> Result<Claims, Stop> {
-        let equalities = equalities_of(alloc, record, atoms)?;
-        let known = set_of(alloc, &equalities)?;
+        let equalities = set_of(alloc, &equalities_of(alloc, record, atoms)?)?;
         let bools = bools_of(alloc, record)?;
         let truths = truths_of(alloc, record, &bools)?;
         let held = Held::new(alloc, &record.table)?;
         Ok(Claims {
             held,
             equalities,
-            known,
-            bools,
+            bools: set_of(alloc, &bools)?,
             truths,
             made: Vec::new(alloc),
+            followed: Vec::new(alloc),
         })
     }
 
@@ -199,8 +199,8 @@ impl Claims {
     /// `Miss` where no term has the number; `Want` where memory runs out.
     pub fn add(&mut self, record: &Record, number: u32) -> Result<(), Stop> {
         if let Some((a, b)) = record.sides(number)? {
-            if self.held.has(a) && self.held.has(b) && self.known.insert(number)? {
-                self.equalities.push(number)?;
+            if self.held.has(a) && self.held.has(b) {
+                self.equalities.insert(number)?;
             }
         }
         Ok(())
@@ -222,44 +222,94 @@ impl Claims {
         }
     }
 
-    /// What an assignment claims.
-    fn wanted(&self, alloc: Global, atoms: &Atoms, values: &[Value]) -> Result<Vec<Claim>, Stop> {
-        let mut claims = Vec::new(alloc);
-        for number in &self.equalities {
-            if let Some(holds) = value_of(values, atoms.find(*number)) {
-                claims.push(Claim::Equality(*number, holds))?;
-            }
+    /// What a literal claims, if it is one of an equality, or of a Bool term that symbols take or give.
+    fn claimed_by(&self, number: u32, holds: bool) -> Option<Claim> {
+        if self.equalities.contains(&number) {
+            return Some(Claim::Equality(number, holds));
         }
-        for number in &self.bools {
-            if let Some(holds) = value_of(values, atoms.find(*number)) {
-                claims.push(Claim::Value(*number, holds))?;
-            }
+        if self.bools.contains(&number) {
+            return Some(Claim::Value(number, holds));
         }
-        if self.truths.is_some() {
-            claims.push(Claim::Truths)?;
-        }
-        Ok(claims)
+        None
     }
 
-    /// Claims what an assignment claims, and nothing else.
-    ///
-    /// # Errors
-    /// `Want` where memory runs out.
-    pub fn make(
+    /// One claim more.
+    fn put(&mut self, alloc: Global, record: &Record, claim: Claim) -> Result<(), Stop> {
+        let (a, b) = self.ends(record, claim)?;
+        self.held.claim(alloc, a, b, is_equal(claim))?;
+        self.made.push(claim)?;
+        Ok(())
+    }
+
+    /// Whether the trail begins with the literals of which all is claimed.
+    fn leads_on(&self, trail: &[Entry]) -> bool {
+        self.followed.len() <= trail.len()
+            && self
+                .followed
+                .iter()
+                .zip(trail)
+                .all(|(old, entry)| same(*old, entry.literal))
+    }
+
+    /// Takes back all claims but the one that is made of no literal.
+    fn begin(&mut self, alloc: Global, record: &Record) -> Result<(), Stop> {
+        self.held.forget();
+        self.made.clear();
+        self.followed.clear();
+        if self.truths.is_some() {
+            self.put(alloc, record, Claim::Truths)?;
+        }
+        Ok(())
+    }
+
+    /// Claims what one literal more claims.
+    fn follow_one(
         &mut self,
         alloc: Global,
         record: &Record,
         atoms: &Atoms,
-        values: &[Value],
+        literal: Literal,
     ) -> Result<(), Stop> {
-        self.held.forget();
-        self.made = self.wanted(alloc, atoms, values)?;
-        for at in 0..self.made.len() {
-            let claim = self.claim(at)?;
-            let (a, b) = self.ends(record, claim)?;
-            self.held.claim(alloc, a, b, is_equal(claim))?;
+        for term in atoms.terms(alloc, &[literal])? {
+            if let Some(claim) = self.claimed_by(term.number, term.positive) {
+                self.put(alloc, record, claim)?;
+            }
+        }
+        self.followed.push(literal)?;
+        Ok(())
+    }
+
+    /// Claims what the literals of a trail claim, and nothing else. Where the trail has only grown since, so do the claims.
+    ///
+    /// # Errors
+    /// `Want` where memory runs out.
+    pub fn follow(
+        &mut self,
+        alloc: Global,
+        record: &Record,
+        atoms: &Atoms,
+        trail: &[Entry],
+    ) -> Result<(), Stop> {
+        if self.made.is_empty() || !self.leads_on(trail) {
+            self.begin(alloc, record)?;
+        }
+        let rest = trail.get(self.followed.len()..).unwrap_or(&[]);
+        for entry in rest {
+            self.follow_one(alloc, record, atoms, entry.literal)?;
         }
         Ok(())
+    }
+
+    /// Whether the number is that of an equality whose terms are equal by what is claimed.
+    ///
+    /// # Errors
+    /// `Miss` where a side isn't known.
+    pub fn is_joined(&self, record: &Record, number: u32) -> Result<bool, Stop> {
+        if !self.equalities.contains(&number) {
+            return Ok(false);
+        }
+        let (a, b) = self.ends(record, Claim::Equality(number, true))?;
+        Ok(self.held.class_of(a)? == self.held.class_of(b)?)
     }
 
     /// The claim of a number.
@@ -282,32 +332,5 @@ impl Claims {
             Some(at) => Ok(Some(self.claim(at as usize)?)),
             None => Ok(None),
         }
-    }
-
-    /// The equality of a claim that it doesn't hold, if its terms are equal.
-    fn joined_by(&self, record: &Record, claim: Claim) -> Result<Option<u32>, Stop> {
-        let Claim::Equality(number, false) = claim else {
-            return Ok(None);
-        };
-        let (a, b) = self.ends(record, claim)?;
-        if self.held.class_of(a)? == self.held.class_of(b)? {
-            Ok(Some(number))
-        } else {
-            Ok(None)
-        }
-    }
-
-    /// The equalities that are claimed not to hold, and whose terms are equal.
-    ///
-    /// # Errors
-    /// `Miss` where a claim's number isn't an equality's; `Want` where memory runs out.
-    pub fn joined(&self, alloc: Global, record: &Record) -> Result<Vec<u32>, Stop> {
-        let mut found = Vec::new(alloc);
-        for claim in &self.made {
-            if let Some(number) = self.joined_by(record, *claim)? {
-                found.push(number)?;
-            }
-        }
-        Ok(found)
     }
 }

@@ -1,3 +1,4 @@
 pub mod Spent
 pub mod New
 pub mod Refuted
+pub mod Reached

@@ -1,13 +1,15 @@
 //! The turns of an attempt, and its answer.
-ghost use Rattle.std.specs.Prelude.{◌≡◌, ◌<◌, ◌≤◌, Err, IsTrue, IfOk, IfSome, IfNone, OnOk, length};
+ghost use Rattle.std.specs.Prelude.{◌≡◌, ◌<◌, ◌≤◌, ◌^◌, Err, IsTrue, IfOk, IfSome, IfNone, OnOk, length};
 ghost use Rattle.vx_terms.specs.Interpretations.{Each};
 ghost use Rattle.cs_numbers.specs.Laws.{IsSorted};
 ghost use Rattle.cs_proof.specs.Fits.{seen};
 ghost use Rattle.cs_search.specs.Assignment.{FalseBefore, IsFalse};
+ghost use Rattle.cs_search.specs.Extended.{IsConflict};
 ghost use Rattle.cs_search.specs.Search.{IsReady, AreSatisfied};
 ghost use Rattle.cs_answer.specs.Answers.{IsRight};
 ghost use Rattle.cs_decide.specs.Spent.{SpendsOnCases};
 ghost use Rattle.cs_decide.specs.New.{AreUntrue, HasNewClause};
+ghost use Rattle.cs_decide.specs.Reached.{IsReached};
 
 use crate::elements::Sources;
 use crate::figures::{Cases, Figures, Found};
@@ -33,7 +35,9 @@ use cs_search::assignment::Assignment;
 use cs_search::examine::status;
 use cs_search::learn::learn;
 use cs_search::order::Order;
-use cs_search::search::{Hints, Search, Solved, Undecided, solve, spend};
+use cs_search::search::{
+    Hints, Search, Undecided, decide, find_unset, latest, learn_conflict, refutation, spend, spread,
+};
 use cs_search::{Clause, Literal, Status, Value};
 use std::alloc::Global;
 use std::rc::Rc;
@@ -241,6 +245,27 @@ impl Check {
         Ok(self.atoms.literals(alloc, &shortcut.literals)?)
     }
 
+    /// Whether the atom is an equality whose terms the classes have joined.
+    fn is_joined(&self, alloc: Global, atom: u32) -> Result<bool, Stop> {
+        let literal = Literal {
+            positive: true,
+            number: atom,
+        };
+        for term in self.atoms.terms(alloc, &[literal])? {
+            if self.claims.is_joined(&self.record, term.number)? {
+                return Ok(true);
+            }
+        }
+        Ok(false)
+    }
+
+    /// The claim that is broken by what the assignment has so far, if one is.
+    fn broken(&mut self, alloc: Global, made: &Assignment) -> Result<Option<Claim>, Stop> {
+        self.claims
+            .follow(alloc, &self.record, &self.atoms, &made.trail)?;
+        Ok(self.claims.broken()?)
+    }
+
     /// The atoms of a clause of cases are compared and claimed from now on.
     fn meet(&mut self, alloc: Global, cases: &Cases) -> Result<Vec<Literal>, Stop> {
         let literals = self.atoms.literals(alloc, &cases.lemma.literals)?;
@@ -423,6 +448,33 @@ fn take_shortcut(
     Ok(())
 }
 
+/// A lemma that is false before any decision refutes the clauses; else the search gets it, and goes back to its first decision.
+fn take_early(
+    alloc: Global,
+    stack: &Stack,
+    check: &mut Check,
+    search: &mut Search,
+    lemma: &Lemma,
+    meter: &mut Meter,
+) -> Result<Option<Answer>, Stop>
+    requires sound { IsReady search.old }
+    ensures answered { IfOk result (λ found. IfSome found (IsRight (seen stack.now))) }
+    ensures ready { IfOk result (λ found. IfNone found (IsReady search.new)) }
+    ensures spends { IfOk result (λ found. IfNone found (meter.old.spent < meter.new.spent)) }
+    ensures kept { (result ≡ Err Stop.Want → ⊥) → meter.old.spent ≤ meter.new.spent }
+{
+    let literals = check.atoms.literals(alloc, &lemma.literals)?;
+    if let Some(reasons) = reasons(alloc, search, &literals)? {
+        return Ok(Some(check.refuted_by(alloc, stack, &reasons, lemma.number)?));
+    }
+    if !spend(meter) {
+        return Err(Stop::Budget);
+    }
+    check.numbers.push(lemma.number)?;
+    add(search, Clause { literals })?;
+    Ok(None)
+}
+
 /// A broken claim teaches a lemma, and a shortcut where it leads over one.
 fn refuse(
     alloc: Global,
@@ -433,7 +485,6 @@ fn refuse(
     meter: &mut Meter,
 ) -> Result<Option<Answer>, Stop>
     requires sound { IsReady search.old }
-    requires satisfied { AreSatisfied search.old.clauses.items search.old.made.values.items }
     ensures answered { IfOk result (λ found. IfSome found (IsRight (seen stack.now))) }
     ensures ready { IfOk result (λ found. IfNone found (IsReady search.new)) }
     ensures spends { IfOk result (λ found. IfNone found (meter.old.spent < meter.new.spent)) }
@@ -441,7 +492,7 @@ fn refuse(
 {
     let lemma = lemma_of(alloc, &mut check.record, &check.claims, broken)?;
     let shortcut = check.shortcut(alloc, &search.made.values, broken)?;
-    if let Some(answer) = take_lemma(alloc, stack, check, search, &lemma, meter)? {
+    if let Some(answer) = take_early(alloc, stack, check, search, &lemma, meter)? {
         return Ok(Some(answer));
     }
     if let Some(shortcut) = shortcut {
@@ -450,32 +501,80 @@ fn refuse(
     Ok(None)
 }
 
-/// The search has an assignment: a broken claim teaches a lemma, and without one numbers go on.
-fn assigned(
+/// How far decisions have led.
+enum Reached {
+    /// The clause of this number is false.
+    Conflict(usize),
+    /// A claim is broken.
+    Broken(Claim),
+    /// Each atom has a value, each clause is satisfied, and no claim is broken.
+    Whole,
+}
+
+/// The atom that is decided next is tried as true first, if it is an equality whose terms the classes have joined.
+fn aim(alloc: Global, check: &Check, search: &mut Search) -> Result<(), Stop>
+    requires narrow { length search.old.made.values.items < 2 ^ 32 }
+    ensures same { search.new ≡ record search.old { order = search.new.order } }
+{
+    if let Some(atom) = find_unset(&search.made.values, &mut search.order) {
+        if check.is_joined(alloc, atom)? {
+            prefer(&mut search.order, atom, true)?;
+        }
+    }
+    Ok(())
+}
+
+/// Decides atom by atom, up to a conflict, a broken claim or a whole assignment.
+fn descend(alloc: Global, check: &mut Check, search: &mut Search) -> Result<Reached, Stop>
+    requires sound { IsReady search.old }
+    requires narrow { length search.old.made.values.items < 2 ^ 32 }
+    ensures sound { OnOk result (IsReady search.new) }
+    ensures reached { IfOk result (IsReached search.new) }
+{
+    loop {
+        if let Some(conflict) = spread(alloc, search)? {
+            return Ok(Reached::Conflict(conflict));
+        }
+        if let Some(broken) = check.broken(alloc, &search.made)? {
+            return Ok(Reached::Broken(broken));
+        }
+        aim(alloc, check, search)?;
+        if !decide(search)? {
+            return Ok(Reached::Whole);
+        }
+    }
+}
+
+/// A clause is false: before any decision that refutes the clauses, else the search learns from it.
+fn conflicted(
     alloc: Global,
     stack: &Stack,
     check: &mut Check,
     search: &mut Search,
+    conflict: usize,
     meter: &mut Meter,
 ) -> Result<Option<Answer>, Stop>
     requires sound { IsReady search.old }
-    requires satisfied { AreSatisfied search.old.clauses.items search.old.made.values.items }
+    requires conflict { IsConflict search.old.clauses.items search.old.made.values.items (length search.old.made.trail.items) conflict }
     ensures answered { IfOk result (λ found. IfSome found (IsRight (seen stack.now))) }
     ensures ready { IfOk result (λ found. IfNone found (IsReady search.new)) }
     ensures spends { IfOk result (λ found. IfNone found (meter.old.spent < meter.new.spent)) }
     ensures kept { (result ≡ Err Stop.Want → ⊥) → meter.old.spent ≤ meter.new.spent }
 {
-    check.tell(alloc, search)?;
-    check
-        .claims
-        .make(alloc, &check.record, &check.atoms, &search.made.values)?;
-    match check.claims.broken()? {
-        Some(broken) => refuse(alloc, stack, check, search, broken, meter),
-        None => figured(alloc, stack, check, search, meter),
+    let Some(start) = latest(search) else {
+        let hints = refutation(alloc, search, conflict)?;
+        let hints = check.mapped(alloc, &hints)?;
+        return Ok(Some(check.refuted(alloc, stack, hints)?));
+    };
+    if !spend(meter) {
+        return Err(Stop::Budget);
     }
+    learn_conflict(alloc, search, start, conflict)?;
+    check.tell(alloc, search)?;
+    Ok(None)
 }
 
-/// One turn: the search, and what its answer leads to.
+/// One turn: decisions, and what they lead to.
 fn turn(
     alloc: Global,
     stack: &Stack,
@@ -492,17 +591,10 @@ fn turn(
     if search.made.values.len() >= 1 << 32 {
         return Err(Stop::Want);
     }
-    match solve(alloc, search, meter) {
-        Err(Undecided::Budget) => Err(Stop::Budget),
-        Err(Undecided::Want(_)) => Err(Stop::Want),
-        Ok(solved) => match solved {
-            Solved::Refuted(hints) => {
-                check.tell(alloc, search)?;
-                let hints = check.mapped(alloc, &hints)?;
-                Ok(Some(check.refuted(alloc, stack, hints)?))
-            }
-            Solved::Assigned => assigned(alloc, stack, check, search, meter),
-        },
+    match descend(alloc, check, search)? {
+        Reached::Conflict(conflict) => conflicted(alloc, stack, check, search, conflict, meter),
+        Reached::Broken(broken) => refuse(alloc, stack, check, search, broken, meter),
+        Reached::Whole => figured(alloc, stack, check, search, meter),
     }
 }
 
