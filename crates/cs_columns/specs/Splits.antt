@@ -5,10 +5,14 @@ use Rattle.cs_columns.specs.declared.columns.Columns.{Columns}
 use Rattle.cs_columns.specs.Fractional.{IsFractionAt}
 use Rattle.cs_columns.specs.Parts.{IsAlone, IsSumOf}
 
+-- the parts make the column: it is that of their sum, or that of the only one
+abbrev pub IsMade : Columns → ℕ → List (ℕ × ℤ) → Type 0
+IsMade columns at parts = IsSumOf columns.columns.items columns.sums.items at parts ⊎ IsAlone columns.columns.items at parts
+
 -- the parts make an Int column, and this is its value, which is no whole number
 pub record IsSplitAt (columns : Columns) (values : List Frac) (at : ℕ) (parts : List (ℕ × ℤ)) (value : Frac) : Type 0 where
   pub fractional : IsFractionAt columns.columns.items values at value
-  pub made : IsSumOf columns.columns.items columns.sums.items at parts ⊎ IsAlone columns.columns.items at parts
+  pub made : IsMade columns at parts
 
 -- for some Int column
 abbrev pub IsSplit : Columns → List Frac → List (ℕ × ℤ) → Frac → Type 0

@@ -10,4 +10,4 @@ mod values;
 pub use columns::{Column, Columns, Line, Named, Origin};
 pub use stop::{Stop, floor, quotient, turned};
 pub use sum::{Sum, primitive};
-pub use values::{Split, parts_of, small_of, split_at, split_of, values_of};
+pub use values::{Split, parts_of, small_of, split_at, split_of, split_of_column, values_of};

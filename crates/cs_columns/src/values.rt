@@ -2,8 +2,8 @@
 ghost use Rattle.std.specs.Prelude.{◌≡◌, ◌<◌, ℕ, Some, IfOk, IfSome, IfNone, slice_get};
 ghost use Rattle.vx_frac.specs.Fraction.{fraction};
 ghost use Rattle.vx_frac.specs.declared.Frac.{Frac};
-ghost use Rattle.cs_columns.specs.Parts.{part_of, AreParts, IsAlone};
-ghost use Rattle.cs_columns.specs.Splits.{IsSplit, AreWhole};
+ghost use Rattle.cs_columns.specs.Parts.{part_of, AreParts, IsAlone, IsSumOf};
+ghost use Rattle.cs_columns.specs.Splits.{IsMade, IsSplit, IsSplitAt, AreWhole};
 ghost use Rattle.cs_columns.specs.Between.{LiesBetween};
 ghost use Rattle.cs_columns.specs.Fractional.{IsFractional, IsFractionAt};
 
@@ -151,19 +151,6 @@ fn between(parts: Vec<(u32, i128)>, value: Frac) -> Split
     split_at(parts, value, value.num() >= 0)
 }
 
-/// The first sum whose value is no whole number, though it is of Int.
-fn split_of_sum(alloc: Global, columns: &Columns, values: &[Frac]) -> Result<Option<Split>, Stop>
-    ensures { IfOk result (λ found. IfSome found (λ split. IsSplit columns.now values.now split.parts.items split.value)) }
-{
-    for named in &columns.sums {
-        if let Some(value) = fraction_at(columns, values, named.column) {
-            let parts = parts_of(alloc, columns, &named.entries)?;
-            return Ok(Some(between(parts, value)));
-        }
-    }
-    Ok(None)
-}
-
 /// A column as a sum of itself.
 fn alone(alloc: Global, columns: &Columns, column: u32) -> Result<Vec<(u32, i128)>, Stop>
     ensures { IfOk result (λ parts. IsAlone columns.now.columns.items column parts.items) }
@@ -175,7 +162,55 @@ fn alone(alloc: Global, columns: &Columns, column: u32) -> Result<Vec<(u32, i128
     parts_of(alloc, columns, &[entry])
 }
 
-/// A sum or else a term of Int whose value is no whole number, if there is one.
+/// The terms that make the column of the sum at a place, with their factors.
+fn summed(
+    alloc: Global,
+    columns: &Columns,
+    column: u32,
+    at: usize,
+) -> Result<Vec<(u32, i128)>, Stop>
+    ensures { IfOk result (λ parts. IsSumOf columns.now.columns.items columns.now.sums.items column parts.items) }
+{
+    match columns.sums.get(at) {
+        Some(named) if named.column == column => parts_of(alloc, columns, &named.entries),
+        _ => Err(Stop::Miss),
+    }
+}
+
+/// The terms that make a column, with their factors.
+fn parts_at(alloc: Global, columns: &Columns, column: u32) -> Result<Vec<(u32, i128)>, Stop>
+    ensures { IfOk result (λ parts. IsMade columns.now column parts.items) }
+{
+    let Some(of) = columns.columns.get(column as usize) else {
+        return Err(Stop::Miss);
+    };
+    match of.origin {
+        Origin::Term(_) => alone(alloc, columns, column),
+        Origin::Sum(at) => summed(alloc, columns, column, at),
+    }
+}
+
+/// The split of a column, if it is of Int and its value is no whole number.
+///
+/// # Errors
+/// `Miss` where it is that of a sum with a column that isn't that of a term; `Want` where memory runs out.
+pub fn split_of_column(
+    alloc: Global,
+    columns: &Columns,
+    values: &[Frac],
+    column: u32,
+) -> Result<Option<Split>, Stop>
+    ensures split { IfOk result (λ found. IfSome found (λ split. IsSplitAt columns.now values.now column split.parts.items split.value)) }
+    ensures whole { IfOk result (λ found. IfNone found ((value : Frac) → ¬ (IsFractionAt columns.now.columns.items values.now column value))) }
+{
+    let Some(value) = fraction_at(columns, values, column) else {
+        return Ok(None);
+    };
+    let parts = parts_at(alloc, columns, column)?;
+    Ok(Some(between(parts, value)))
+}
+
+/// The split of the first column of Int whose value is no whole number, if there is one.
 ///
 /// # Errors
 /// `Miss` where a sum has a column that isn't that of a term; `Want` where memory runs out.
@@ -183,16 +218,12 @@ pub fn split_of(alloc: Global, columns: &Columns, values: &[Frac]) -> Result<Opt
     ensures split { IfOk result (λ found. IfSome found (λ split. IsSplit columns.now values.now split.parts.items split.value)) }
     ensures whole { IfOk result (λ found. IfNone found (AreWhole columns.now values.now)) }
 {
-    if let Some(split) = split_of_sum(alloc, columns, values)? {
-        return Ok(Some(split));
-    }
     let Ok(width) = u32::try_from(columns.columns.len()) else {
         return Err(Stop::Want);
     };
     for column in 0..width {
-        if let Some(value) = fraction_at(columns, values, column) {
-            let parts = alone(alloc, columns, column)?;
-            return Ok(Some(between(parts, value)));
+        if let Some(split) = split_of_column(alloc, columns, values, column)? {
+            return Ok(Some(split));
         }
     }
     Ok(None)

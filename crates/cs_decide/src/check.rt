@@ -200,7 +200,10 @@ impl Check {
         let sources = self.sources(values);
         let model = model_of(alloc, &sources, self.live)?;
         let misread = misread(alloc, &sources, &model, self.live)?;
-        evaluated(alloc, stack, model, misread)
+        match evaluated(alloc, stack, model, misread) {
+            Err(stop) => Err(self.figures.excused(stop)),
+            answer => answer,
+        }
     }
 
     /// What the numbers lead to.

@@ -16,7 +16,7 @@ use cs_record::numbered::Record;
 use cs_search::Value;
 use cs_sums::{Arithmetic, Contradiction, Share, numbers_of};
 use std::alloc::Global;
-use vx_frac::Frac;
+use vx_frac::{Frac, Over};
 
 /// So many clauses of cases come of products at most.
 const PRODUCT_CASES: u32 = 64;
@@ -35,7 +35,13 @@ pub struct Figures {
     told: u32,
     // how many clauses of cases may still come of products
     products: u32,
+    // the first call that left 128 bits: what it was needed for isn't claimed
+    over: Option<Over>,
 }
+
+/// How often the comparisons of the greatest numbers are left out at most: each time, those whose numbers have at least half as many
+/// digits as the greatest ones.
+const LIGHTENINGS: u32 = 16;
 
 /// A clause that tells cases, whether its first one is to be tried first, and whether it is a split.
 #[derive(Drop)]
@@ -88,6 +94,7 @@ impl Figures {
             terms: numbers_among(alloc, record, count)?,
             told: 0,
             products: PRODUCT_CASES,
+            over: None,
         };
         for number in 0..count {
             if atoms.find(number).is_some() {
@@ -97,10 +104,18 @@ impl Figures {
         Ok(figures)
     }
 
-    /// Takes an atom, if it compares numbers and isn't taken yet. It may come from a split.
+    /// Something isn't claimed, since this call leaves 128 bits.
+    fn pass(&mut self, call: Over) {
+        if self.over.is_none() {
+            self.over = Some(call);
+        }
+    }
+
+    /// Takes an atom, if it compares numbers and isn't taken yet. It may come from a split. Where its sum leaves 128 bits, it is
+    /// no comparison, but an atom as any other.
     ///
     /// # Errors
-    /// `Over` where a fraction leaves 128 bits; `Want` where memory runs out.
+    /// `Want` where memory runs out.
     pub fn add(
         &mut self,
         alloc: Global,
@@ -111,11 +126,12 @@ impl Figures {
         if self.arithmetic.has(number) {
             return Ok(());
         }
-        if self
-            .arithmetic
-            .add(alloc, &record.table.nodes, number, of_split)?
-        {
-            self.comparisons.push(number)?;
+        let nodes = &record.table.nodes;
+        match self.arithmetic.add(alloc, nodes, number, of_split) {
+            Ok(true) => self.comparisons.push(number)?,
+            Ok(false) => {}
+            Err(Stop::Over(call)) => self.pass(call),
+            Err(stop) => return Err(stop),
         }
         Ok(())
     }
@@ -128,6 +144,22 @@ impl Figures {
         self.arithmetic.value(&record.table.nodes, term)
     }
 
+    /// Claims that a comparison holds, or that it doesn't; nothing where its bound leaves 128 bits.
+    fn claim_one(
+        &mut self,
+        alloc: Global,
+        number: u32,
+        holds: bool,
+    ) -> Result<Option<Vec<Share>>, Stop> {
+        match self.arithmetic.claim(alloc, number, holds) {
+            Err(Stop::Over(call)) => {
+                self.pass(call);
+                Ok(None)
+            }
+            claimed => claimed,
+        }
+    }
+
     /// Claims what an assignment says of the comparisons. Two that contradict each other are given back.
     fn claim(
         &mut self,
@@ -136,9 +168,13 @@ impl Figures {
         values: &[Value],
     ) -> Result<Option<Vec<Share>>, Stop> {
         self.arithmetic.forget();
-        for number in &self.comparisons {
-            if let Some(holds) = value_of(values, atoms.find(*number)) {
-                if let Some(shares) = self.arithmetic.claim(alloc, *number, holds)? {
+        for at in 0..self.comparisons.len() {
+            let Some(number) = self.comparisons.get(at) else {
+                return Err(Stop::Miss);
+            };
+            let number = *number;
+            if let Some(holds) = value_of(values, atoms.find(number)) {
+                if let Some(shares) = self.claim_one(alloc, number, holds)? {
                     return Ok(Some(shares));
                 }
             }
@@ -151,6 +187,26 @@ impl Figures {
         Ok(term != class && self.value(record, term)? != self.value(record, class)?)
     }
 
+    /// Claims that two terms are equal; nothing where their difference leaves 128 bits.
+    fn join_one(
+        &mut self,
+        alloc: Global,
+        record: &Record,
+        term: u32,
+        class: u32,
+    ) -> Result<Joined, Stop> {
+        let nodes = &record.table.nodes;
+        match self.arithmetic.claim_same(alloc, nodes, term, class) {
+            Ok(Some(shares)) => Ok(Joined::Refuted(shares)),
+            Ok(None) => Ok(Joined::More),
+            Err(Stop::Over(call)) => {
+                self.pass(call);
+                Ok(Joined::Nothing)
+            }
+            Err(stop) => Err(stop),
+        }
+    }
+
     /// Claims that terms of one class with other values are equal.
     fn join(&mut self, alloc: Global, record: &Record, claims: &Claims) -> Result<Joined, Stop> {
         let mut joined = Joined::Nothing;
@@ -160,11 +216,11 @@ impl Figures {
             };
             let (term, class) = (*term, claims.held.class_of(*term)?);
             if self.is_apart(record, term, class)? {
-                let nodes = &record.table.nodes;
-                if let Some(shares) = self.arithmetic.claim_same(alloc, nodes, term, class)? {
-                    return Ok(Joined::Refuted(shares));
+                match self.join_one(alloc, record, term, class)? {
+                    Joined::Nothing => {}
+                    Joined::More => joined = Joined::More,
+                    Joined::Refuted(shares) => return Ok(Joined::Refuted(shares)),
                 }
-                joined = Joined::More;
             }
         }
         Ok(joined)
@@ -223,6 +279,9 @@ impl Figures {
         values: &[Value],
         claims: &Claims,
     ) -> Result<Option<Cases>, Stop> {
+        if let Some(split) = self.arithmetic.unsolvable(alloc)? {
+            return Ok(Some(split_by(alloc, record, &split)?));
+        }
         if let Some(split) = self.arithmetic.fractional(alloc)? {
             return Ok(Some(split_by(alloc, record, &split)?));
         }
@@ -249,11 +308,8 @@ impl Figures {
         Ok(Some(product_cases(alloc, record, atoms, values, factor)?))
     }
 
-    /// What an assignment and the classes over it lead to. Cases take a unit, and one more for each sixteen before them.
-    ///
-    /// # Errors
-    /// `Budget` where all units are spent; `Over` where a fraction leaves 128 bits; `Want` where memory runs out.
-    pub fn examine(
+    /// What an assignment and the classes over it lead to, by all comparisons that are left.
+    fn weigh(
         &mut self,
         alloc: Global,
         record: &mut Record,
@@ -275,6 +331,61 @@ impl Figures {
         match self.cases(alloc, record, atoms, values, claims)? {
             Some(cases) => self.tell(meter, cases),
             None => Ok(Found::Values),
+        }
+    }
+
+    /// Leaves out the comparisons whose numbers have at least half as many digits as the greatest ones, since this call leaves 128 bits.
+    ///
+    /// # Errors
+    /// `Over` with this call where there is nothing to leave out; `Want` where memory runs out.
+    fn lighten(&mut self, alloc: Global, record: &Record, call: Over) -> Result<(), Stop> {
+        if self.comparisons.is_empty() {
+            return Err(Stop::Over(call));
+        }
+        self.pass(call);
+        let greatest = self.arithmetic.greatest(&self.comparisons);
+        let mut light = Vec::new(alloc);
+        for number in &self.comparisons {
+            if !self.arithmetic.is_heavy(*number, greatest) {
+                light.push(*number)?;
+            }
+        }
+        self.arithmetic = self.arithmetic.rest(alloc, &record.table.nodes, &light)?;
+        self.comparisons = light;
+        Ok(())
+    }
+
+    /// What an assignment and the classes over it lead to. Cases take a unit, and one more for each sixteen before them. Where a fraction
+    /// leaves 128 bits, the comparisons of the greatest numbers are left out from then on.
+    ///
+    /// # Errors
+    /// `Budget` where all units are spent; `Over` where a fraction leaves 128 bits with no comparison; `Want` where memory runs out.
+    pub fn examine(
+        &mut self,
+        alloc: Global,
+        record: &mut Record,
+        atoms: &Atoms,
+        values: &[Value],
+        claims: &Claims,
+        meter: &mut Meter,
+    ) -> Result<Found, Stop>
+        ensures spent { meter.old.spent ≤ meter.new.spent }
+        ensures cases { IfOk result (SpendsOnCases meter.old.spent meter.new.spent) }
+    {
+        for _ in 0..LIGHTENINGS {
+            match self.weigh(alloc, record, atoms, values, claims, meter) {
+                Err(Stop::Over(call)) => self.lighten(alloc, record, call)?,
+                found => return found,
+            }
+        }
+        self.weigh(alloc, record, atoms, values, claims, meter)
+    }
+
+    /// Why a model is none. Where something wasn't claimed, this may be why.
+    pub fn excused(&self, stop: Stop) -> Stop {
+        match (stop, self.over) {
+            (Stop::Miss, Some(call)) => Stop::Over(call),
+            (stop, _) => stop,
         }
     }
 

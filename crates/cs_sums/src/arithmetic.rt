@@ -3,14 +3,16 @@ ghost use Rattle.std.specs.Prelude.{◌≤◌, IfOk, IfSome, IfNone};
 ghost use Rattle.cs_columns.specs.Splits.{IsSplit, AreWhole};
 ghost use Rattle.cs_sums.specs.Shown.{columns_of, values_of};
 
+use crate::choice::{Splits, choice};
 use crate::constraints::{Comparison, Constraint, Order, other_side, sides_of};
 use crate::cuts::{Taken, cut_of};
+use crate::equations::unsolvable;
 use crate::limits::{Entered, Limits};
 use crate::loose::spread;
 use crate::reading::{line_between, numbers_of, value_at};
-use cs_columns::{Columns, Split, Stop, small_of, split_of, values_of};
+use cs_columns::{Columns, Origin, Split, Stop, small_of, split_of, split_of_column, values_of};
 use cs_farkas::{Numbers, Relation};
-use cs_linear::{Bound, Checked, Part, Side};
+use cs_linear::{Bound, Checked, Entry, Part, Side};
 use cs_meter::Meter;
 use cs_table::Node;
 use std::alloc::Global;
@@ -64,11 +66,27 @@ pub struct Arithmetic {
     limits: Limits,
     bounds: Vec<Bound>,
     values: Vec<Frac>,
+    // how often columns were split
+    splits: Splits,
 }
 
 /// The numbers that a term's sort has.
 fn numbers_at(nodes: &[Node], term: u32) -> Option<Numbers> {
     numbers_of(&nodes.get(term as usize)?.sort)
+}
+
+/// The size of a fraction: that of its numerator, or its denominator.
+fn size_of(number: Frac) -> u128 {
+    number.num().unsigned_abs().max(number.den().unsigned_abs())
+}
+
+/// The size of the greatest of some factors.
+fn greatest(entries: &[Entry]) -> u128 {
+    let mut greatest = 0;
+    for entry in entries {
+        greatest = size_of(entry.factor).max(greatest);
+    }
+    greatest
 }
 
 /// The part that a bound takes in a contradiction of two.
@@ -90,6 +108,7 @@ impl Arithmetic {
             limits: Limits::new(alloc),
             bounds: Vec::new(alloc),
             values: Vec::new(alloc),
+            splits: Splits::new(alloc),
         }
     }
 
@@ -148,6 +167,9 @@ impl Arithmetic {
             return Ok(false);
         };
         let comparison = self.comparison(alloc, nodes, order, numbers, (a, b))?;
+        if let (true, Some(column)) = (of_split, comparison.line.column) {
+            self.splits.add(column)?;
+        }
         self.reach(term)?;
         if let Some(place) = self.comparisons.get_mut(term as usize) {
             *place = Some(Known {
@@ -156,6 +178,53 @@ impl Arithmetic {
             });
         }
         Ok(true)
+    }
+
+    /// The size of the greatest numbers of a comparison, if it is one that was taken.
+    fn size(&self, term: u32) -> Option<u128> {
+        let known = (*self.comparisons.get(term as usize)?)?;
+        let line = known.comparison.line;
+        let own = size_of(line.factor).max(size_of(line.constant));
+        let of = match line.column {
+            Some(column) => self.columns.columns.get(column as usize)?.origin,
+            None => return Some(own),
+        };
+        match of {
+            Origin::Term(_) => Some(own),
+            Origin::Sum(at) => Some(own.max(greatest(&self.columns.sums.get(at)?.entries))),
+        }
+    }
+
+    /// The size of the greatest numbers of these comparisons.
+    pub fn greatest(&self, terms: &[u32]) -> u128 {
+        let mut greatest = 0;
+        for term in terms {
+            greatest = self.size(*term).unwrap_or(0).max(greatest);
+        }
+        greatest
+    }
+
+    /// Whether the numbers of a comparison have at least half as many digits as one of this size.
+    pub fn is_heavy(&self, term: u32, greatest: u128) -> bool {
+        let size = self.size(term).unwrap_or(0);
+        match greatest.checked_div(size) {
+            Some(times) => times <= size,
+            None => greatest == 0,
+        }
+    }
+
+    /// The same without all columns and comparisons, but for those of these terms, and with no claims.
+    ///
+    /// # Errors
+    /// `Over` where a fraction leaves 128 bits; `Want` where memory runs out.
+    pub fn rest(&self, alloc: Global, nodes: &[Node], terms: &[u32]) -> Result<Arithmetic, Stop> {
+        let mut rest = Arithmetic::new(alloc);
+        for term in terms {
+            if let Some(Some(known)) = self.comparisons.get(*term as usize) {
+                rest.add(alloc, nodes, *term, known.of_split)?;
+            }
+        }
+        Ok(rest)
     }
 
     /// Takes back all claims. No memory.
@@ -312,13 +381,16 @@ impl Arithmetic {
         })
     }
 
-    /// The split that a contradiction of the tableau asks for.
+    /// The split that a contradiction of the tableau asks for; none where a fraction of it leaves 128 bits.
     fn cut(&self, alloc: Global, parts: &[Part]) -> Result<Option<Split>, Stop> {
         let mut all = Vec::new(alloc);
         for part in parts {
             all.push(self.taken(part)?)?;
         }
-        cut_of(alloc, &self.columns, &all)
+        match cut_of(alloc, &self.columns, &all) {
+            Err(Stop::Over(_)) => Ok(None),
+            cut => cut,
+        }
     }
 
     /// A contradiction of the tableau.
@@ -364,6 +436,31 @@ impl Arithmetic {
         value_at(nodes, term, &self.columns, &self.values)
     }
 
+    /// The split of a sum of Int terms whose value follows from the equations that are claimed, and is no whole number. It is looked for where
+    /// the values that the last check left aren't whole.
+    ///
+    /// # Errors
+    /// `Want` where memory runs out.
+    pub fn unsolvable(&self, alloc: Global) -> Result<Option<Split>, Stop> {
+        if choice(&self.columns, &self.limits, &self.splits, &self.values).is_none() {
+            return Ok(None);
+        }
+        match unsolvable(alloc, &self.columns, &self.limits) {
+            Err(Stop::Over(_)) => Ok(None),
+            found => found,
+        }
+    }
+
+    /// The split of the column that is to be split next, if there is one.
+    fn chosen(&self, alloc: Global) -> Result<Option<Split>, Stop>
+        ensures { IfOk result (λ found. IfSome found (λ split. IsSplit (columns_of self.now) (values_of self.now) split.parts.items split.value)) }
+    {
+        match choice(&self.columns, &self.limits, &self.splits, &self.values) {
+            Some(column) => split_of_column(alloc, &self.columns, &self.values, column),
+            None => Ok(None),
+        }
+    }
+
     /// A sum of Int terms, or one Int term, whose value is no whole number, if there is one: the split is at this value.
     ///
     /// # Errors
@@ -372,6 +469,9 @@ impl Arithmetic {
         ensures split { IfOk result (λ found. IfSome found (λ split. IsSplit (columns_of self.now) (values_of self.now) split.parts.items split.value)) }
         ensures whole { IfOk result (λ found. IfNone found (AreWhole (columns_of self.now) (values_of self.now))) }
     {
-        split_of(alloc, &self.columns, &self.values)
+        match self.chosen(alloc)? {
+            Some(split) => Ok(Some(split)),
+            None => split_of(alloc, &self.columns, &self.values),
+        }
     }
 }

@@ -17,8 +17,11 @@ pub struct Taken {
     pub of_split: bool,
 }
 
-/// Adds a sum times a factor.
-fn add_sum(to: &mut Sum, factor: Frac, entries: &[Entry]) -> Result<(), Stop> {
+/// Adds a sum times a factor, without its constant.
+///
+/// # Errors
+/// `Over` where a factor leaves 128 bits; `Want` where memory runs out.
+pub fn add_sum(to: &mut Sum, factor: Frac, entries: &[Entry]) -> Result<(), Stop> {
     for entry in entries {
         to.add(entry.column, factor.mul(entry.factor)?)?;
     }

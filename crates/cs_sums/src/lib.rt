@@ -2,8 +2,10 @@
 #![tactic(auto)]
 
 mod arithmetic;
+mod choice;
 mod constraints;
 mod cuts;
+mod equations;
 mod limits;
 mod loose;
 mod reading;

@@ -3,6 +3,7 @@
 use cs_columns::Stop;
 use cs_linear::{Bound, Side};
 use std::alloc::Global;
+use vx_frac::Frac;
 
 /// The tightest bounds of a column.
 #[derive(Clone, Copy)]
@@ -26,6 +27,14 @@ pub enum Entered {
     Tighter,
     /// It contradicts this one.
     Against(Bound),
+}
+
+/// Whether the limit of a bound is this value.
+fn is_limit(bound: Option<Bound>, value: Frac) -> bool {
+    match bound {
+        Some(bound) => bound.limit.main == value,
+        None => false,
+    }
 }
 
 impl Sides {
@@ -85,6 +94,25 @@ impl Limits {
         match self.columns.get(column as usize) {
             Some(sides) => (sides.lower.is_some(), sides.upper.is_some()),
             None => (false, false),
+        }
+    }
+
+    /// Whether a column has a bound of this value.
+    pub fn is_bound(&self, column: u32, value: Frac) -> bool {
+        match self.columns.get(column as usize) {
+            Some(sides) => is_limit(sides.lower, value) || is_limit(sides.upper, value),
+            None => false,
+        }
+    }
+
+    /// The only value that its bounds leave a column.
+    pub fn only(&self, column: u32) -> Option<Frac> {
+        let sides = self.columns.get(column as usize)?;
+        let (lower, upper) = (sides.lower?.limit, sides.upper?.limit);
+        if lower.main == upper.main && lower.delta == upper.delta {
+            Some(lower.main)
+        } else {
+            None
         }
     }
 

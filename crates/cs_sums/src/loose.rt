@@ -101,30 +101,46 @@ fn move_one(
     Ok(())
 }
 
-/// Spreads the values of columns that no bound of a sum holds; bounds are met as before. Where there is a product of two terms
-/// that aren't literals, the values stay: it may have its value by chance.
-///
-/// # Errors
-/// `Over` where a fraction leaves 128 bits; `Want` where memory runs out.
-pub fn spread(
+/// The values of columns, of which those that no bound of a sum holds are spread.
+fn spread_out(
     alloc: Global,
     columns: &Columns,
     limits: &Limits,
-    values: &mut [Frac],
-) -> Result<(), Stop> {
-    if columns.has_products {
-        return Ok(());
-    }
+    values: &[Frac],
+) -> Result<Vec<Frac>, Stop> {
+    let mut values = values.to_vec(alloc)?;
     let marks = tight(alloc, columns, limits)?;
     let Ok(width) = u32::try_from(columns.columns.len()) else {
         return Err(Stop::Want);
     };
     for column in 0..width {
-        move_one(values, columns, limits, &marks, column)?;
+        move_one(&mut values, columns, limits, &marks, column)?;
     }
     for sum in &columns.sums {
-        let value = total(values, &sum.entries)?;
-        set(values, sum.column, value);
+        let value = total(&values, &sum.entries)?;
+        set(&mut values, sum.column, value);
+    }
+    Ok(values)
+}
+
+/// Spreads the values of columns that no bound of a sum holds; bounds are met as before. Where there is a product of two terms
+/// that aren't literals, the values stay: it may have its value by chance. They stay too where a spread one leaves 128 bits.
+///
+/// # Errors
+/// `Want` where memory runs out.
+pub fn spread(
+    alloc: Global,
+    columns: &Columns,
+    limits: &Limits,
+    values: &mut Vec<Frac>,
+) -> Result<(), Stop> {
+    if columns.has_products {
+        return Ok(());
+    }
+    match spread_out(alloc, columns, limits, values) {
+        Ok(spread) => *values = spread,
+        Err(Stop::Over(_)) => {}
+        Err(stop) => return Err(stop),
     }
     Ok(())
 }

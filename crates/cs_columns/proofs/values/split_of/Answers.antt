@@ -1,9 +1,14 @@
-use Rattle.std.proofs.Common.{rules, ◌≡◌, ◌<◌, ◌≤◌, length, below_more, arith}
+use Rattle.std.proofs.Common.{rules, ◌≡◌, ◌<◌, ◌≤◌, Option, IfNone, length, below_more, arith, subst}
 use Rattle.std.proofs.lemmas.Option.{slice_get_within}
+use Rattle.vx_frac.specs.declared.Frac.{Frac}
+use Rattle.cs_columns.specs.declared.values.Split.{Split}
+use Rattle.cs_columns.specs.Fractional.{IsFractionAt}
 use Rattle.cs_columns.proofs.values.split_of.Goals as goal
 
 pub loop-column-preserved : goal.loop-column-preserved
-loop-column-preserved c = below_more _ _ c.loop-column.invariant c.in_default-fraction_at.ensures.whole
+loop-column-preserved c =
+    below_more _ _ c.loop-column.invariant
+    (subst (λ (o : Option Split). IfNone o ((value : Frac) → ¬ IsFractionAt c.args.columns.now.columns.items c.args.values.now c.loop-column.column value)) c.in_default-2.is c.in_ok-split.ensures.whole)
 
 pub returns-clause-whole : goal.returns-clause-whole
 returns-clause-whole c =
