@@ -5,6 +5,6 @@ use Rattle.cs_columns.specs.Splits.{AreWhole}
 use Rattle.cs_sums.specs.Shown.{columns_of}
 use Rattle.cs_sums.proofs.arithmetic.Arithmetic.fractional.Goals as goal
 
-pub returns-clause-whole : goal.returns-clause-whole
-returns-clause-whole c =
+pub returns-in-None-clause-whole : goal.returns-in-None-clause-whole
+returns-in-None-clause-whole c =
     subst (λ (values : List Frac). IfOk c.split_of.result (λ found. IfNone found (AreWhole (columns_of c.args.self.now) values))) c.deref.ensures.value c.split_of.ensures.whole
