@@ -34,10 +34,7 @@ pub struct Factor {
 
 /// Whether the term is a literal.
 fn is_literal(record: &Record, number: u32) -> Result<bool, Stop> {
-    Ok(matches!(
-        record.node(number)?.head,
-        Head::Number(_) | Head::Part(_)
-    ))
+    Ok(matches!(record.node(number)?.head, Head::Number(_) | Head::Part(_)))
 }
 
 /// The product that a term is, if it is one of two terms that are no literals.
@@ -64,10 +61,13 @@ fn misread(sources: &Sources<'_>, product: Product) -> Result<Option<Factor>, St
     let value = sources.figures.value(sources.record, product.left)?;
     let other = sources.figures.value(sources.record, product.right)?;
     let own = sources.figures.value(sources.record, product.number)?;
-    match value.mul(other) {
-        Ok(made) if made != own => Ok(Some(Factor { product, value })),
-        _ => Ok(None),
+    let Ok(made) = value.mul(other) else {
+        return Ok(None);
+    };
+    if made == own {
+        return Ok(None);
     }
+    Ok(Some(Factor { product, value }))
 }
 
 /// The left factor of the first product whose value isn't that of its factors, if there is one among the first terms.
