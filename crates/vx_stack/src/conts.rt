@@ -67,6 +67,7 @@ fn question(
         place,
         code,
         path: state.path.path.copy()?,
+        count: state.path.count,
         condition: condition.clone()?,
         probe,
     })

@@ -7,6 +7,7 @@ mod clauses;
 mod conts;
 mod frame;
 mod instances;
+mod once_more;
 mod question;
 mod search;
 mod waiting;

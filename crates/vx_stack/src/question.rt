@@ -1,9 +1,8 @@
 //! Questions.
 
-ghost use Rattle.std.specs.Prelude.{◌≡◌, IfOk};
-ghost use Rattle.vx_stack.specs.Stack.{query};
+ghost use Rattle.std.specs.Prelude.{◌≡◌, length};
+ghost use Rattle.vx_states.specs.Paths.{entries};
 
-use std::alloc::AllocError;
 use std::rc::Rc;
 use vx_ast::Place;
 use vx_rules::Code;
@@ -16,21 +15,9 @@ pub struct Query {
     pub place: Place,
     pub code: Code,
     pub path: Path,
+    /// How many entries the path has.
+    pub count: usize,
     pub condition: Rc<Term>,
     pub probe: bool,
-}
-
-impl Query {
-    /// The same question once more.
-    pub fn copy(&self) -> Result<Query, AllocError>
-        ensures { IfOk result (λ copy. query copy ≡ query self.now) }
-    {
-        Ok(Query {
-            place: self.place,
-            code: self.code,
-            path: self.path.copy()?,
-            condition: self.condition.clone()?,
-            probe: self.probe,
-        })
-    }
+    ghost counted: { count ≡ length (entries path) },
 }

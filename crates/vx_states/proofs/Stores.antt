@@ -1,6 +1,7 @@
 -- Paths and stores of src/ against those of the rules.
-use Rattle.std.proofs.Common.{◌≡◌, ℕ, suc, ◌+◌, ◌<◌, Bool, true, false, cond, ◌||◌, ◌++◌, List, [], ◌∷◌, map, length, get_or, Option, Some, None, option_map, refl, sym, ap, ◌∙◌, arith, reverse, append_assoc, append-nil}
-use Rattle.std.proofs.lemmas.List.{reverse-append}
+use Rattle.std.proofs.Common.{◌≡◌, ℕ, suc, ◌+◌, ◌-◌, ◌<◌, ◌≤◌, Bool, true, false, cond, ◌||◌, ◌++◌, List, [], ◌∷◌, map, length, drop, get_or, Option, Some, None, option_map, refl, sym, ap, ◌∙◌, arith, reverse, append_assoc, append-nil}
+use Rattle.std.proofs.lemmas.List.{length-append, length-map, length-reverse, reverse-append}
+use Rattle.std.proofs.Math.Seq.{drop-append_seam}
 use Rattle.std.specs.Prelude.{slice_set}
 use Rattle.vx_ast.specs.Syntax.{Name, same_name}
 use Rattle.vx_terms.specs.Terms.{Term, same}
@@ -38,6 +39,28 @@ taken_over f es u branch taken a e =
     ∙ append_assoc (path_terms es) (u ∷ []) (map f (reverse taken))
     ∙ ap (λ v. path_terms es ++ v ∷ map f (reverse taken)) (sym e)
     ∙ ap (λ l. path_terms es ++ map f l) (sym (reverse-append taken (a ∷ [])))
+
+pub length_terms : (es : List Entry) → length (path_terms es) ≡ length es
+length_terms [] = refl
+length_terms (e ∷ es) = ap suc (length_terms es)
+
+-- so many were taken over: they are the newest
+pub newest_taken : {A : Type 0} (f : A → Term) (es rest : List Entry) (taken : List A) (count : ℕ) → path_terms es ≡ path_terms rest ++ map f (reverse taken) →
+    length taken ≤ count → count ≤ length taken → map f (reverse taken) ≡ drop (length es - count) (path_terms es)
+newest_taken f es rest taken count h few many =
+    let own = length-map (reverse taken) f ∙ length-reverse taken in
+    let all = sym (length_terms es) ∙ ap length h ∙ length-append (path_terms rest) (map f (reverse taken)) in
+    let before : length es - count ≡ length (path_terms rest) = omega (arith, own, all, few, many) in
+    sym (ap (λ n. drop n (path_terms es)) before ∙ ap (λ l. drop (length (path_terms rest)) l) h ∙ drop-append_seam (path_terms rest) (map f (reverse taken)))
+
+-- all were taken over
+pub all_taken : {A : Type 0} (f : A → Term) (es : List Entry) (taken : List A) (count : ℕ) → path_terms es ≡ map f (reverse taken) →
+    length taken ≤ count → map f (reverse taken) ≡ drop (length es - count) (path_terms es)
+all_taken f es taken count h few =
+    let own = length-map (reverse taken) f ∙ length-reverse taken in
+    let all = sym (length_terms es) ∙ ap length h in
+    let none : length es - count ≡ 0 = omega (arith, own, all, few) in
+    sym (ap (λ n. drop n (path_terms es)) none ∙ h)
 
 -- what an assignment makes of a store, by where the variable stands
 abbrev pub Assigned : Name → Term → Store → Option ℕ → Type 0

@@ -1,6 +1,6 @@
 //! The path of a symbolic state, which its copies and its questions share.
 
-ghost use Rattle.std.specs.Prelude.{◌≡◌, IfOk, map};
+ghost use Rattle.std.specs.Prelude.{◌≡◌, ◌-◌, IfOk, drop, length, map};
 ghost use Rattle.vx_rules.specs.States.{path_terms};
 ghost use Rattle.vx_states.specs.Paths.{entries};
 ghost use Rattle.vx_heap.specs.Views.{held_term};
@@ -53,6 +53,29 @@ impl Path {
         let mut taken = Vec::new(alloc);
         let mut rest = self;
         'entries: loop {
+            match rest {
+                Path::Empty => break 'entries,
+                Path::Branch(before, entry) | Path::Fact(before, entry) => {
+                    taken.push(entry.copy()?)?;
+                    rest = before;
+                }
+            }
+        }
+        taken.reverse();
+        Ok(taken)
+    }
+
+    /// The newest entries, so many or all, the oldest of them first. It takes no longer than for these.
+    #[tactic(auto, using(crate::proofs::Stores::taken_over, crate::proofs::Stores::newest_taken, crate::proofs::Stores::all_taken))]
+    pub fn newest(&self, alloc: Global, count: usize) -> Result<Vec<Entry>, AllocError>
+        ensures { IfOk result (λ v. map (λ e. held_term e.term) v.items ≡ drop (length (entries self.now) - count) (path_terms (entries self.now))) }
+    {
+        let mut taken = Vec::new(alloc);
+        let mut rest = self;
+        'entries: loop {
+            if taken.len() >= count {
+                break 'entries;
+            }
             match rest {
                 Path::Empty => break 'entries,
                 Path::Branch(before, entry) | Path::Fact(before, entry) => {
