@@ -5,7 +5,7 @@ ghost use Rattle.vx_dialogue.specs.Dialogue.{IsFree};
 use crate::links::put_counted;
 use crate::outside::{Outside, Turn};
 use std::alloc::{AllocError, Global};
-use vx_dialogue::{Dialogue, Talk};
+use vx_dialogue::{Base, Dialogue, Talk};
 use vx_ends::{Bytes, Piece, ScriptLink};
 use vx_lines::Text;
 use vx_smt_meaning::{Declared, Reply};
@@ -40,7 +40,7 @@ fn put_turn(alloc: Global, dialogue: &mut Dialogue<ScriptLink>, turn: &Turn, tex
     ensures { IsFree dialogue.new }
 {
     match turn {
-        Turn::Ask(path, condition) => match dialogue.ask(alloc, path, condition) {
+        Turn::Ask(path, condition) => match dialogue.ask(alloc, Base::Nothing, path, condition) {
             Ok(reply) => text.put(reply_word(reply)),
             Err(talk) => put_talk(&talk, text),
         },

@@ -9,6 +9,7 @@ pub mod Turns
 pub mod Segments
 pub mod Kept
 pub mod Scripts
+pub mod Bases
 pub mod Standing
 pub mod Places
 pub mod Live

@@ -15,10 +15,12 @@ ghost use Rattle.vx_segments.specs.Views.{entry};
 ghost use Rattle.vx_dialogue.specs.Preamble.{preamble};
 ghost use Rattle.vx_dialogue.specs.Scripts as Said;
 ghost use Rattle.vx_dialogue.specs.Scripts.{ScopedTurn, question, script};
+ghost use Rattle.vx_dialogue.specs.Bases.{standing, path_behind};
 ghost use Rattle.vx_dialogue.specs.Places.{IsReady};
 ghost use Rattle.vx_dialogue.specs.Dialogue.{shared, link_of, scope_of, has_failed, IsFree, IsAsked, Gathers, Waits, Stands, Awaits, base_of, check_of, told_check, gives};
 
 use crate::Talk;
+use crate::base::Base;
 use crate::batch::expect_successes;
 use crate::item::{Wanted, answer, expect};
 use crate::preamble::front_commands;
@@ -212,47 +214,65 @@ impl<L: Link> Dialogue<L> {
         Ok(())
     }
 
-    fn post_all(&mut self, alloc: Global, path: &[Entry], condition: &Rc<Term>) -> Result<(), Talk>
+    fn post_all(
+        &mut self,
+        alloc: Global,
+        base: Base,
+        path: &[Entry],
+        condition: &Rc<Term>,
+    ) -> Result<(), Talk>
         requires { IsReady self.old.levels }
         ensures told { OnOk result ((commands : List Spec.Command) (checks : List Check) → Gathers L.dialogue self.old commands checks
-            → Waits L.dialogue self.new ((commands ++ question (scope_of self.old) (map entry path.now) (shared condition.now)) ++ Spec.CheckSat ∷ []) checks) }
+            → Waits L.dialogue self.new ((commands ++ question (scope_of self.old) (path_behind base (scope_of self.old) (map entry path.now)) (shared condition.now)) ++ Spec.CheckSat ∷ []) checks) }
         ensures asked { OnOk result (IsSome self.new.owed × (self.new.count ≡ 0) × IsReady self.new.levels) }
-        ensures scope { OnOk result (scope_of self.new ≡ Said.Inside (map entry path.now)) }
+        ensures scope { OnOk result (scope_of self.new ≡ Said.Inside (path_behind base (scope_of self.old) (map entry path.now))) }
         ensures failed { self.new.failed ≡ self.old.failed }
-        ensures fault { IfErr result (λ talk. (commands : List Spec.Command) (checks : List Check) → Gathers L.dialogue self.old commands checks → AreCommands (commands ++ question (scope_of self.old) (map entry path.now) (shared condition.now)) → Breaks talk ((commands ++ question (scope_of self.old) (map entry path.now) (shared condition.now)) ++ Spec.CheckSat ∷ []) (L.dialogue self.new.link) checks) }
+        ensures fault { IfErr result (λ talk. (commands : List Spec.Command) (checks : List Check) → Gathers L.dialogue self.old commands checks
+            → AreCommands (commands ++ question (scope_of self.old) (path_behind base (scope_of self.old) (map entry path.now)) (shared condition.now))
+            → Breaks talk ((commands ++ question (scope_of self.old) (path_behind base (scope_of self.old) (map entry path.now)) (shared condition.now)) ++ Spec.CheckSat ∷ []) (L.dialogue self.new.link) checks) }
         ensures grows { Grows (L.dialogue self.old.link) (L.dialogue self.new.link) }
         ensures cause { HasCause Talk.Pipe (L.faults self.old.link) (L.faults self.new.link) result }
-        ensures steady { IsSteady L.steady L.faults self.old.link → (commands : List Spec.Command) (checks : List Check) → Gathers L.dialogue self.old commands checks → AreCommands (commands ++ question (scope_of self.old) (map entry path.now) (shared condition.now)) → IsSteady L.steady L.faults self.new.link }
+        ensures steady { IsSteady L.steady L.faults self.old.link → (commands : List Spec.Command) (checks : List Check) → Gathers L.dialogue self.old commands checks
+            → AreCommands (commands ++ question (scope_of self.old) (path_behind base (scope_of self.old) (map entry path.now)) (shared condition.now)) → IsSteady L.steady L.faults self.new.link }
         ensures open { result ≡ Err Talk.Closed → ⊥ }
     {
-        let commands = self.levels.question(alloc, path, condition)?;
+        let commands = self.levels.question(alloc, base, path, condition)?;
         self.say_all(alloc, &commands)?;
         self.send_check(alloc)
     }
 
-    /// Asks whether the condition follows from the path: the path and the negated condition are asserted and checked.
+    /// Asks whether the condition follows from the path, which is the base and these entries behind it: the path and the negated
+    /// condition are asserted and checked. Behind a base that stands the entries alone are looked at, and sent.
     ///
     /// # Errors
     /// `Pipe` where the link fails, `Garbled` where an item is no lawful reply, `Refused` where it refuses a command, `Want` where
     /// memory runs out, and `Closed` where an earlier call failed.
-    pub fn post(&mut self, alloc: Global, path: &[Entry], condition: &Rc<Term>) -> Result<(), Talk>
+    pub fn post(
+        &mut self,
+        alloc: Global,
+        base: Base,
+        path: &[Entry],
+        condition: &Rc<Term>,
+    ) -> Result<(), Talk>
         requires { IsFree self.old }
         ensures asks { OnOk result ((certify : Bool) (functions : List Spec.Declared) (turns : List ScopedTurn) (checks : List Check) → Stands L.dialogue certify functions turns self.old checks
-            → Awaits L.dialogue certify functions turns (map entry path.now) (shared condition.now) self.new checks) }
+            → Awaits L.dialogue certify functions turns (path_behind base (scope_of self.old) (map entry path.now)) (shared condition.now) self.new checks) }
         ensures asked { IsAsked self.new }
+        ensures scope { OnOk result (scope_of self.new ≡ Said.Inside (path_behind base (scope_of self.old) (map entry path.now))) }
         ensures fault { IfErr result (λ talk. (certify : Bool) (functions : List Spec.Declared) (turns : List ScopedTurn) (checks : List Check) → Stands L.dialogue certify functions turns self.old checks
-            → AreCommands (script certify functions (turns ++ Said.Posts (map entry path.now) (shared condition.now) ∷ [])) → Breaks talk (script certify functions (turns ++ Said.Posts (map entry path.now) (shared condition.now) ∷ [])) (L.dialogue (link_of self.new)) checks) }
+            → AreCommands (script certify functions (turns ++ Said.Posts (path_behind base (scope_of self.old) (map entry path.now)) (shared condition.now) ∷ []))
+            → Breaks talk (script certify functions (turns ++ Said.Posts (path_behind base (scope_of self.old) (map entry path.now)) (shared condition.now) ∷ [])) (L.dialogue (link_of self.new)) checks) }
         ensures grows { Grows (L.dialogue (link_of self.old)) (L.dialogue (link_of self.new)) }
         ensures cause { HasCause Talk.Pipe (L.faults (link_of self.old)) (L.faults (link_of self.new)) result }
         ensures steady { IsSteady L.steady L.faults (link_of self.old) → (certify : Bool) (functions : List Spec.Declared) (turns : List ScopedTurn) (checks : List Check) → Stands L.dialogue certify functions turns self.old checks
-            → AreCommands (script certify functions (turns ++ Said.Posts (map entry path.now) (shared condition.now) ∷ [])) → IsSteady L.steady L.faults (link_of self.new) }
+            → AreCommands (script certify functions (turns ++ Said.Posts (path_behind base (scope_of self.old) (map entry path.now)) (shared condition.now) ∷ [])) → IsSteady L.steady L.faults (link_of self.new) }
         ensures closed { (result ≡ Err Talk.Closed) ↔ (has_failed self.old ≡ true) }
         ensures failed { has_failed self.new ≡ is_err result }
     {
         if self.failed {
             return Err(Talk::Closed);
         }
-        match self.post_all(alloc, path, condition) {
+        match self.post_all(alloc, base, path, condition) {
             Ok(()) => Ok(()),
             Err(talk) => {
                 self.failed = true;
@@ -293,6 +313,7 @@ impl<L: Link> Dialogue<L> {
             → Awaits L.dialogue certify functions turns path condition self.old checks
             → Stands L.dialogue certify functions (turns ++ Said.Asks path condition ∷ []) self.new (checks ++ check_of (base_of certify functions) (segments.terms path) condition reply ∷ [])) }
         ensures free { IsFree self.new }
+        ensures scope { OnOk result (scope_of self.new ≡ scope_of self.old) }
         ensures fault { IfErr result (λ talk. (certify : Bool) (functions : List Spec.Declared) (turns : List ScopedTurn) (path : List segments.Entry) (condition : Written.Term) (checks : List Check)
             → Awaits L.dialogue certify functions turns path condition self.old checks → AreCommands (script certify functions (turns ++ Said.Posts path condition ∷ [])) → Breaks talk (script certify functions (turns ++ Said.Posts path condition ∷ [])) (L.dialogue (link_of self.new)) checks) }
         ensures grows { Grows (L.dialogue (link_of self.old)) (L.dialogue (link_of self.new)) }
@@ -315,7 +336,7 @@ impl<L: Link> Dialogue<L> {
         }
     }
 
-    /// Posts a question and reads its reply.
+    /// Posts a question, whose path is the base and these entries behind it, and reads its reply.
     ///
     /// # Errors
     /// `Pipe` where the link fails, `Garbled` where an item is no lawful reply, `Refused` where it refuses a command, `Want` where
@@ -323,24 +344,36 @@ impl<L: Link> Dialogue<L> {
     pub fn ask(
         &mut self,
         alloc: Global,
+        base: Base,
         path: &[Entry],
         condition: &Rc<Term>,
     ) -> Result<Reply, Talk>
         requires { IsFree self.old }
         ensures reply { IfOk result (λ reply. (certify : Bool) (functions : List Spec.Declared) (turns : List ScopedTurn) (checks : List Check) → Stands L.dialogue certify functions turns self.old checks
-            → Stands L.dialogue certify functions (turns ++ Said.Asks (map entry path.now) (shared condition.now) ∷ []) self.new (checks ++ check_of (base_of certify functions) (segments.terms (map entry path.now)) (shared condition.now) reply ∷ [])) }
+            → Stands L.dialogue certify functions (turns ++ Said.Asks (path_behind base (scope_of self.old) (map entry path.now)) (shared condition.now) ∷ []) self.new
+            (checks ++ check_of (base_of certify functions) (segments.terms (path_behind base (scope_of self.old) (map entry path.now))) (shared condition.now) reply ∷ [])) }
         ensures free { IsFree self.new }
+        ensures scope { OnOk result (scope_of self.new ≡ Said.Inside (path_behind base (scope_of self.old) (map entry path.now))) }
         ensures fault { IfErr result (λ talk. (certify : Bool) (functions : List Spec.Declared) (turns : List ScopedTurn) (checks : List Check) → Stands L.dialogue certify functions turns self.old checks
-            → AreCommands (script certify functions (turns ++ Said.Posts (map entry path.now) (shared condition.now) ∷ [])) → Breaks talk (script certify functions (turns ++ Said.Posts (map entry path.now) (shared condition.now) ∷ [])) (L.dialogue (link_of self.new)) checks) }
+            → AreCommands (script certify functions (turns ++ Said.Posts (path_behind base (scope_of self.old) (map entry path.now)) (shared condition.now) ∷ []))
+            → Breaks talk (script certify functions (turns ++ Said.Posts (path_behind base (scope_of self.old) (map entry path.now)) (shared condition.now) ∷ [])) (L.dialogue (link_of self.new)) checks) }
         ensures grows { Grows (L.dialogue (link_of self.old)) (L.dialogue (link_of self.new)) }
         ensures cause { HasCause Talk.Pipe (L.faults (link_of self.old)) (L.faults (link_of self.new)) result }
         ensures steady { IsSteady L.steady L.faults (link_of self.old) → (certify : Bool) (functions : List Spec.Declared) (turns : List ScopedTurn) (checks : List Check) → Stands L.dialogue certify functions turns self.old checks
-            → AreCommands (script certify functions (turns ++ Said.Posts (map entry path.now) (shared condition.now) ∷ [])) → IsSteady L.steady L.faults (link_of self.new) }
+            → AreCommands (script certify functions (turns ++ Said.Posts (path_behind base (scope_of self.old) (map entry path.now)) (shared condition.now) ∷ [])) → IsSteady L.steady L.faults (link_of self.new) }
         ensures closed { (result ≡ Err Talk.Closed) ↔ (has_failed self.old ≡ true) }
         ensures failed { has_failed self.new ≡ is_err result }
     {
-        self.post(alloc, path, condition)?;
+        self.post(alloc, base, path, condition)?;
         self.take(alloc)
+    }
+
+    /// How many entries of the member's last question stand, so that a path may go on behind them; none where no member is open.
+    /// No memory.
+    pub fn standing(&self) -> usize
+        ensures { result ≡ length (standing (scope_of self.now)) }
+    {
+        self.levels.standing()
     }
 
     /// Ends the member. Its levels are closed before the next question.

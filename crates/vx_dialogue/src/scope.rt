@@ -1,13 +1,15 @@
 // Where a dialogue stands between questions.
-ghost use Rattle.std.specs.Prelude.{◌≡◌, ◌++◌, OnOk, IfOk, map};
+ghost use Rattle.std.specs.Prelude.{◌≡◌, ◌++◌, OnOk, IfOk, length, map};
 ghost use Rattle.vx_smt_meaning.specs.Views.{command};
 ghost use Rattle.vx_segments.specs.Views.{entry};
 ghost use Rattle.vx_dialogue.specs.Scripts as Said;
 ghost use Rattle.vx_dialogue.specs.Scripts.{said_before, question};
+ghost use Rattle.vx_dialogue.specs.Bases.{standing, path_behind};
 ghost use Rattle.vx_dialogue.specs.Standing.{path_of, IsSound};
 ghost use Rattle.vx_dialogue.specs.Places.{scope, IsReady};
 ghost use Rattle.vx_dialogue.specs.Dialogue.{shared};
 
+use crate::base::Base;
 use crate::standing::Standing;
 use std::alloc::{AllocError, Global};
 use std::rc::Rc;
@@ -51,24 +53,35 @@ impl Levels {
         }
     }
 
+    /// How many entries of the member's last question stand; none where no member is open. No memory.
+    pub fn standing(&self) -> usize
+        ensures { result ≡ length (standing (scope self.now)) }
+    {
+        match self.place {
+            Place::Inside => self.standing.len(),
+            Place::Outside | Place::Left => 0,
+        }
+    }
+
     /// From where the dialogue stands to the levels of a path.
     fn move_to(
         &mut self,
         alloc: Global,
         commands: &mut Vec<Command>,
+        base: Base,
         path: &[Entry],
     ) -> Result<(), AllocError>
         requires { IsReady self.old }
-        ensures said { OnOk result (map command commands.new.items ≡ map command commands.old.items ++ said_before (scope self.old) (map entry path.now)) }
-        ensures path { OnOk result (path_of self.new.standing ≡ map entry path.now) }
+        ensures said { OnOk result (map command commands.new.items ≡ map command commands.old.items ++ said_before (scope self.old) (path_behind base (scope self.old) (map entry path.now))) }
+        ensures path { OnOk result (path_of self.new.standing ≡ path_behind base (scope self.old) (map entry path.now)) }
         ensures sound { OnOk result (IsSound self.new.standing) }
     {
         match self.place {
             Place::Outside => self.standing.begin(alloc, commands, path),
             Place::Left => self.standing.begin_again(alloc, commands, path),
-            Place::Inside => match self.standing.kept(path) {
-                Some(count) => self.standing.go_on(alloc, commands, path, count),
-                None => self.standing.begin_again(alloc, commands, path),
+            Place::Inside => match base {
+                Base::Nothing => self.standing.change_to(alloc, commands, path),
+                Base::Standing => self.standing.go_further(alloc, commands, path),
             },
         }
     }
@@ -77,16 +90,17 @@ impl Levels {
     pub fn question(
         &mut self,
         alloc: Global,
+        base: Base,
         path: &[Entry],
         condition: &Rc<Term>,
     ) -> Result<Vec<Command>, AllocError>
         requires { IsReady self.old }
-        ensures said { IfOk result (λ commands. map command commands.items ≡ question (scope self.old) (map entry path.now) (shared condition.now)) }
-        ensures inside { OnOk result (scope self.new ≡ Said.Inside (map entry path.now)) }
+        ensures said { IfOk result (λ commands. map command commands.items ≡ question (scope self.old) (path_behind base (scope self.old) (map entry path.now)) (shared condition.now)) }
+        ensures inside { OnOk result (scope self.new ≡ Said.Inside (path_behind base (scope self.old) (map entry path.now))) }
         ensures ready { OnOk result (IsReady self.new) }
     {
         let mut commands = Vec::new(alloc);
-        self.move_to(alloc, &mut commands, path)?;
+        self.move_to(alloc, &mut commands, base, path)?;
         self.standing.ask(alloc, &mut commands, condition)?;
         self.place = Place::Inside;
         Ok(commands)

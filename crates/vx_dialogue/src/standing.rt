@@ -97,11 +97,11 @@ impl Standing {
         }
     }
 
-    /// How many entries stay where this path comes next (None: not even the member's own level stays).
-    pub fn kept(&self, path: &[Entry]) -> Option<usize>
-        ensures { result ≡ Stays.kept (path_of self.now) (map entry path.now) }
+    /// How many entries there are. No memory.
+    pub fn len(&self) -> usize
+        ensures { result ≡ length (path_of self.now) }
     {
-        kept(&self.sent, path)
+        self.sent.len()
     }
 
     /// Goes back to the first so many entries.
@@ -213,7 +213,7 @@ impl Standing {
     }
 
     /// Goes on to another path, of which the first so many entries stay.
-    pub fn go_on(
+    fn go_on(
         &mut self,
         alloc: Global,
         commands: &mut Vec<Command>,
@@ -232,6 +232,40 @@ impl Standing {
         put_pops(commands, depth(last, &self.sent[count..]))?;
         self.back_to(count);
         self.say_all(alloc, commands, &path[count..])
+    }
+
+    /// Goes on to another path: what stays of the last question's path isn't sent again.
+    pub fn change_to(
+        &mut self,
+        alloc: Global,
+        commands: &mut Vec<Command>,
+        path: &[Entry],
+    ) -> Result<(), AllocError>
+        requires { IsSound self.old }
+        ensures said { OnOk result (map command commands.new.items ≡ map command commands.old.items ++ onto (path_of self.old) (map entry path.now) (Stays.kept (path_of self.old) (map entry path.now))) }
+        ensures path { OnOk result (path_of self.new ≡ map entry path.now) }
+        ensures sound { OnOk result (IsSound self.new) }
+    {
+        match kept(&self.sent, path) {
+            Some(count) => self.go_on(alloc, commands, path, count),
+            None => self.begin_again(alloc, commands, path),
+        }
+    }
+
+    /// Closes the last question's own level, and goes on behind its path with these entries.
+    pub fn go_further(
+        &mut self,
+        alloc: Global,
+        commands: &mut Vec<Command>,
+        entries: &[Entry],
+    ) -> Result<(), AllocError>
+        requires { IsSound self.old }
+        ensures said { OnOk result (map command commands.new.items ≡ map command commands.old.items ++ (Spec.Pop 1 ∷ segments.sent (last_of 0 (path_of self.old)) (with_listed [] (terms (path_of self.old))) (map entry entries.now))) }
+        ensures path { OnOk result (path_of self.new ≡ path_of self.old ++ map entry entries.now) }
+        ensures sound { OnOk result (IsSound self.new) }
+    {
+        commands.push(Command::Pop(1))?;
+        self.say_all(alloc, commands, entries)
     }
 
     /// Opens the question's own level, and asserts its negated condition there. What is declared for it goes with that level.

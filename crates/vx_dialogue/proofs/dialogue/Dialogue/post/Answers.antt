@@ -3,6 +3,7 @@ use Rattle.vx_smt_meaning.specs.Commands.{CheckSat}
 use Rattle.vx_smt_meaning.specs.Names.{AreCommands}
 use Rattle.vx_dialogue.specs.Scripts.{Posts, script, question}
 use Rattle.vx_segments.specs.Views.{entry}
+use Rattle.vx_dialogue.specs.Bases.{path_behind}
 use Rattle.vx_dialogue.specs.Dialogue.{Waits, shared, scope_of}
 use Rattle.vx_dialogue.specs.History.{Breaks}
 use Rattle.vx_dialogue.proofs.Levels.{script_posted, scope_more}
@@ -12,7 +13,7 @@ use Rattle.vx_dialogue.proofs.dialogue.Dialogue.post.Goals as goal
 
 pub returns-in-Ok-clause-asks : goal.returns-in-Ok-clause-asks
 returns-in-Ok-clause-asks g c = λ certify functions turns checks stands.
-    let path = map entry c.args.path.now in
+    let path = path_behind c.args.base (scope_of c.args.self.now) (map entry c.args.path.now) in
     let condition = shared c.args.condition.now in
     let is = script_posted certify functions turns path condition (scope_of c.args.self.now) stands.scope in
     record {
@@ -22,7 +23,7 @@ returns-in-Ok-clause-asks g c = λ certify functions turns checks stands.
 
 pub returns-in-Err-clause-fault : goal.returns-in-Err-clause-fault
 returns-in-Err-clause-fault g c = λ certify functions turns checks stands named.
-    let path = map entry c.args.path.now in
+    let path = path_behind c.args.base (scope_of c.args.self.now) (map entry c.args.path.now) in
     let condition = shared c.args.condition.now in
     let from = scope_of c.args.self.now in
     let commands = script certify functions turns in
@@ -32,7 +33,7 @@ returns-in-Err-clause-fault g c = λ certify functions turns checks stands named
 
 pub returns-in-Ok-clause-steady : goal.returns-in-Ok-clause-steady
 returns-in-Ok-clause-steady g c = λ steady certify functions turns checks stands named.
-    let path = map entry c.args.path.now in
+    let path = path_behind c.args.base (scope_of c.args.self.now) (map entry c.args.path.now) in
     let condition = shared c.args.condition.now in
     let from = scope_of c.args.self.now in
     let commands = script certify functions turns in
@@ -41,7 +42,7 @@ returns-in-Ok-clause-steady g c = λ steady certify functions turns checks stand
 
 pub returns-in-Err-clause-steady : goal.returns-in-Err-clause-steady
 returns-in-Err-clause-steady g c = λ steady certify functions turns checks stands named.
-    let path = map entry c.args.path.now in
+    let path = path_behind c.args.base (scope_of c.args.self.now) (map entry c.args.path.now) in
     let condition = shared c.args.condition.now in
     let from = scope_of c.args.self.now in
     let commands = script certify functions turns in
@@ -51,5 +52,5 @@ returns-in-Err-clause-steady g c = λ steady certify functions turns checks stan
 pub returns-then-self-clause-fault : goal.returns-then-self-clause-fault
 returns-then-self-clause-fault g c = λ certify functions turns checks stands named. record {
   explained = tt;
-  told = tells_missed _ _ _ (standing_longer g.L.Link.dialogue certify functions turns (Posts (map entry c.args.path.now) (shared c.args.condition.now)) c.args.self.now checks stands);
+  told = tells_missed _ _ _ (standing_longer g.L.Link.dialogue certify functions turns (Posts (path_behind c.args.base (scope_of c.args.self.now) (map entry c.args.path.now)) (shared c.args.condition.now)) c.args.self.now checks stands);
 }

@@ -4,6 +4,7 @@ use Rattle.vx_smt_meaning.specs.Dialogues.{ArePlain}
 use Rattle.vx_smt_meaning.specs.Views.{command}
 use Rattle.vx_dialogue.specs.Scripts.{question}
 use Rattle.vx_segments.specs.Views.{entry}
+use Rattle.vx_dialogue.specs.Bases.{path_behind}
 use Rattle.vx_dialogue.specs.Dialogue.{Waits, shared, scope_of}
 use Rattle.vx_dialogue.specs.History.{Breaks}
 use Rattle.vx_dialogue.proofs.History.{breaks_at, breaks_longer, breaks_want, gathers_tells, tells_twice}
@@ -17,7 +18,7 @@ use Rattle.vx_dialogue.proofs.dialogue.Dialogue.post_all.Goals as goal
 
 pub returns-clause-told : goal.returns-clause-told
 returns-clause-told g c =
-    let path = map entry c.args.path.now in
+    let path = path_behind c.args.base (scope_of c.args.self.now) (map entry c.args.path.now) in
     let condition = shared c.args.condition.now in
     let from = scope_of c.args.self.now in
     let all : map command c.deref.result.now ≡ question from path condition = search rules in
@@ -28,7 +29,7 @@ returns-clause-told g c =
 
 pub returns-in_err-say_all-clause-fault : goal.returns-in_err-say_all-clause-fault
 returns-in_err-say_all-clause-fault g c =
-    let path = map entry c.args.path.now in
+    let path = path_behind c.args.base (scope_of c.args.self.now) (map entry c.args.path.now) in
     let condition = shared c.args.condition.now in
     let from = scope_of c.args.self.now in
     let all : map command c.deref.result.now ≡ question from path condition = search rules in
@@ -40,7 +41,7 @@ returns-in_err-say_all-clause-fault g c =
 
 pub returns-clause-fault : goal.returns-clause-fault
 returns-clause-fault g c =
-    let path = map entry c.args.path.now in
+    let path = path_behind c.args.base (scope_of c.args.self.now) (map entry c.args.path.now) in
     let condition = shared c.args.condition.now in
     let from = scope_of c.args.self.now in
     let all : map command c.deref.result.now ≡ question from path condition = search rules in
@@ -52,7 +53,7 @@ returns-clause-fault g c =
 
 pub returns-in_err-say_all-clause-steady : goal.returns-in_err-say_all-clause-steady
 returns-in_err-say_all-clause-steady g c = λ steady commands checks told named.
-    let path = map entry c.args.path.now in
+    let path = path_behind c.args.base (scope_of c.args.self.now) (map entry c.args.path.now) in
     let condition = shared c.args.condition.now in
     let from = scope_of c.args.self.now in
     let all : map command c.deref.result.now ≡ question from path condition = search rules in
@@ -62,7 +63,7 @@ returns-in_err-say_all-clause-steady g c = λ steady commands checks told named.
 
 pub returns-clause-steady : goal.returns-clause-steady
 returns-clause-steady g c = λ steady commands checks told named.
-    let path = map entry c.args.path.now in
+    let path = path_behind c.args.base (scope_of c.args.self.now) (map entry c.args.path.now) in
     let condition = shared c.args.condition.now in
     let from = scope_of c.args.self.now in
     let all : map command c.deref.result.now ≡ question from path condition = search rules in
@@ -73,7 +74,7 @@ returns-clause-steady g c = λ steady commands checks told named.
 
 pub returns-in_err-commands-clause-fault : goal.returns-in_err-commands-clause-fault
 returns-in_err-commands-clause-fault g c =
-    let asked = question (scope_of c.args.self.now) (map entry c.args.path.now) (shared c.args.condition.now) in
+    let asked = question (scope_of c.args.self.now) (path_behind c.args.base (scope_of c.args.self.now) (map entry c.args.path.now)) (shared c.args.condition.now) in
     let p = err_from_is_err_and c.from_residual.result c.from_residual.ensures.1 in rw p.1 (λ commands checks told named.
     breaks_want p.0 ((commands ++ asked) ++ CheckSat ∷ []) _ checks p.2
     (tells_twice commands asked (CheckSat ∷ []) _ checks (gathers_tells g.L.Link.dialogue c.args.self.now commands checks told)))

@@ -1,6 +1,14 @@
-use Rattle.std.proofs.Common.{◌∙◌, sym}
-use Rattle.vx_dialogue.proofs.Counted.{stays_within}
+use Rattle.std.proofs.Common.{◌++◌, map, ap, ◌∙◌, sym}
+use Rattle.vx_smt_meaning.specs.Views.{command}
+use Rattle.vx_segments.specs.Views.{entry}
+use Rattle.vx_dialogue.specs.Standing.{path_of}
+use Rattle.vx_dialogue.proofs.Lists.{on_ok_map}
+use Rattle.vx_dialogue.proofs.Bases.{further}
 use Rattle.vx_dialogue.proofs.scope.Levels.move_to.Goals as goal
 
-pub go_on-requires-clause-within : goal.go_on-requires-clause-within
-go_on-requires-clause-within c = stays_within c.args.self.now.standing.sent.items c.args.path.now c.in-Some.count (sym c.kept.ensures ∙ c.in-Some.is)
+pub returns-in-Standing-clause-said : goal.returns-in-Standing-clause-said
+returns-in-Standing-clause-said c =
+    let old = path_of c.args.self.now.standing in
+    let entries = map entry c.args.path.now in
+    rw (c.in-Inside.is, c.in-Standing.is)
+    (on_ok_map c.go_further.result _ _ (λ said. said ∙ ap (λ x. map command c.args.commands.now.items ++ x) (sym (further old entries))) c.go_further.ensures.said)
