@@ -6,13 +6,17 @@ use Rattle.vx_stack.specs.declared.frame.Side.{Side}
 use Rattle.vx_stack.specs.declared.question.Query.{Query}
 use Rattle.vx_machine.specs.declared.machine.Phase.{Phase}
 use Rattle.vx_machine.specs.declared.machine.Phase.TheVariants as phase'
+use Rattle.vx_machine.specs.declared.machine.Ask.{Ask}
+use Rattle.vx_machine.specs.declared.machine.Ask.TheVariants as ask'
 use Rattle.vx_machine.specs.declared.machine.Machine.{Machine}
 use Rattle.vx_smt_meaning.specs.declared.reply.Reply.{Reply}
 use Rattle.vx_smt_meaning.specs.declared.reply.Reply.TheVariants.{Unsat, Sat, Unknown}
 use Rattle.vx_rules.specs.Trees.{Question, Tree, Answered, Walked, Failed, Open, after_answer, walk, ends}
 use Rattle.vx_rules.specs.Codes.{code}
 use Rattle.vx_stack.specs.Stack.{query}
-use Rattle.vx_machine.specs.Runs.{without_other, without_last, remaining, waiting_by, RunsTo, after_answers, coming, IsAt, Within, Follows, given, is_spent, is_unsat, member_tree, EachAnswered}
+use Rattle.vx_machine.specs.declared.run.Found.{Found}
+use Rattle.vx_machine.specs.Growth.{without_other, without_last, AsksFrom, Stays, IsOpen, GoesOn, GoesOnBy}
+use Rattle.vx_machine.specs.Runs.{remaining, waiting_by, RunsTo, after_answers, coming, IsAt, Within, Follows, given, is_spent, is_unsat, member_tree, EachAnswered}
 
 after_answers-more : (as' : List Answered) (a : Answered) (w : Walked) → after_answers (as' ++ a ∷ []) w ≡ after_answers as' (after_answer a.question a.reply w)
 after_answers-more [] a w = refl
@@ -35,15 +39,15 @@ module _ (p : Program) (t : Tree) (given : List Reply) where
   at_end old new h r = record { answered = h.answered; replies = h.replies; comes = λ rs. h.comes rs ∙ ap (after_answers h.answered) (r rs) }
 
   -- run has found a question
-  pub at_question : (old new : List Side) (q k : Query) → IsAt p t phase'.Ready old given → RunsTo p old (Some q) new → query k ≡ query q → IsAt p t (phase'.Asked k) new given
-  at_question old new q k h r e = record {
+  pub at_question : (old new : List Side) (f : Found) (k : Query) → IsAt p t phase'.Ready old given → RunsTo p old (Some f) new → query k ≡ query f.query → IsAt p t (phase'.Asked k) new given
+  at_question old new f k h r e = record {
     answered = h.answered;
     replies = h.replies;
-    comes = λ rs. h.comes rs ∙ ap (after_answers h.answered) (r rs ∙ ap (λ (x : Question). waiting_by p x.probe (query q) new rs) (sym e) ∙ ap (λ x. waiting_by p k.probe x new rs) (sym e));
+    comes = λ rs. h.comes rs ∙ ap (after_answers h.answered) (r rs ∙ ap (λ (x : Question). waiting_by p x.probe (query f.query) new rs) (sym e) ∙ ap (λ x. waiting_by p k.probe x new rs) (sym e));
   }
 
-  pub at_limit : (old new : List Side) (q : Query) → IsAt p t phase'.Ready old given → RunsTo p old (Some q) new → IsAt p t (phase'.Limited q) new given
-  at_limit old new q h r = record { answered = h.answered; replies = h.replies; comes = λ rs. h.comes rs ∙ ap (after_answers h.answered) (r rs) }
+  pub at_limit : (old new : List Side) (f : Found) → IsAt p t phase'.Ready old given → RunsTo p old (Some f) new → IsAt p t (phase'.Limited f.query) new given
+  at_limit old new f h r = record { answered = h.answered; replies = h.replies; comes = λ rs. h.comes rs ∙ ap (after_answers h.answered) (r rs) }
 
   walked_now : (phase : Phase) (sides : List Side) → (h : IsAt p t phase sides given) → walk t given ≡ after_answers h.answered (coming p phase sides [])
   walked_now phase sides h = ap (walk t) (sym (append-nil given)) ∙ h.comes []
@@ -56,6 +60,15 @@ module _ (p : Program) (t : Tree) (given : List Reply) where
   pub answered_now : (phase : Phase) (sides : List Side) → IsAt p t phase sides given → (coming p phase sides []).answered ≡ [] → EachAnswered (walk t given) given
   answered_now phase sides h e =
       ap (λ w. map (λ a. a.reply) w.answered) (walked_now phase sides h) ∙ ap (map (λ a. a.reply)) (after_answers-answered h.answered (coming p phase sides []) e) ∙ h.replies
+
+-- where it stays, what is asked goes on from the question that was handed out
+pub asks_on : (phase : Phase) (asked : Query) (ask : Ask) → IsOpen phase (ask'.Check asked) → Stays phase ask → AsksFrom (query asked).path ask
+asks_on (phase'.Asked q) asked ask e h = subst (λ (x : Question). AsksFrom x.path ask) e h
+asks_on phase'.Ready asked ask e h = absurd h
+asks_on (phase'.Limited q) asked ask e h = absurd h
+asks_on phase'.Passed asked ask e h = absurd h
+asks_on (phase'.Failed place c r) asked ask e h = absurd h
+asks_on phase'.Spent asked ask e h = absurd h
 
 -- an open question comes to no more
 pub waiting_ends : (p : Program) (b : Bool) (q : Question) (sides : List Side) → waiting_by p b q sides [] ≡ ends (Open q)
@@ -111,6 +124,13 @@ module _ (p : Program) where
 
   pub within_at : (m : Machine) (phase : Phase) → m.phase ≡ phase → is_spent phase ≡ false → Follows p m → Within phase m.limit (Rattle.std.specs.Prelude.length m.replies.items)
   within_at m phase e s h = subst (λ x. Within x m.limit (Rattle.std.specs.Prelude.length m.replies.items)) e (h (ap is_spent e ∙ s)).1
+
+  pub goes_on_at : (m : Machine) (phase : Phase) → m.phase ≡ phase → is_spent phase ≡ false → Follows p m → GoesOn p phase m.conts.sides.items
+  goes_on_at m phase e s h = subst (λ x. GoesOn p x m.conts.sides.items) e (h (ap is_spent e ∙ s)).2
+
+  -- the same question once more
+  pub goes_on_same : (q k : Query) (sides : List Side) → query k ≡ query q → GoesOn p (phase'.Asked q) sides → GoesOn p (phase'.Asked k) sides
+  goes_on_same q k sides e h = subst (λ (x : Question). GoesOnBy p x.probe x.path sides) (sym e) h
 
   -- a longer list of replies
   pub given_more : (t : Tree) (phase : Phase) (sides : List Side) (old new : List Reply) (r : Reply) → new ≡ old ++ r ∷ [] → IsAt p t phase sides (old ++ r ∷ []) → IsAt p t phase sides new

@@ -1,4 +1,5 @@
 pub mod Walks
+pub mod OnTop
 pub mod Follow
 mod Gathers
 mod Quiet

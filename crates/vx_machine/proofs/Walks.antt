@@ -1,5 +1,5 @@
 -- Walks through stacks.
-use Rattle.std.proofs.Common.{◌≡◌, ℕ, ◌+◌, Bool, true, false, List, [], ◌∷◌, ◌++◌, Some, None, refl, sym, ap, ◌∙◌, arith}
+use Rattle.std.proofs.Common.{◌≡◌, ℕ, ◌+◌, ◌<◌, Bool, true, false, List, [], ◌∷◌, ◌++◌, refl, sym, ap, subst, ◌∙◌, arith}
 use Rattle.vx_ast.specs.Syntax.{Program}
 use Rattle.vx_stack.specs.declared.frame.Side.{Side}
 use Rattle.vx_stack.specs.declared.question.Query.{Query}
@@ -9,7 +9,9 @@ use Rattle.vx_smt_meaning.specs.declared.reply.Reply.{Reply}
 use Rattle.vx_rules.specs.States.{State}
 use Rattle.vx_rules.specs.Trees.{Question, Tree, Impossible, Ask, Probe, Walked, walk_then, passed, steps_then}
 use Rattle.vx_stack.specs.Stack.{side_tree, query, Checked, Stepped}
-use Rattle.vx_machine.specs.Runs.{without_other, without_last, asking, probing, below, remaining, steps_below, steps_remaining, waiting_by, Turned}
+use Rattle.vx_machine.specs.declared.run.Came.TheVariants as came'
+use Rattle.vx_machine.specs.Growth.{without_other, without_last}
+use Rattle.vx_machine.specs.Runs.{asking, probing, below, remaining, steps_below, steps_remaining, waiting_by, Turned}
 
 pub without_last-push : (sides : List Side) (a : Side) → without_last (sides ++ a ∷ []) ≡ sides
 without_last-push [] a = refl
@@ -46,33 +48,33 @@ module _ (p : Program) where
   steps_below-two (c ∷ sides) b a left = steps_below-two sides b a (steps_then (side_tree p c) left)
 
   -- a side that can't be leaves what is below it
-  pub turned_impossible : (t : Tree) (old : List Side) (z : State) → t ≡ Impossible z → Turned p t old None old
+  pub turned_impossible : (t : Tree) (old : List Side) (z : State) → t ≡ Impossible z → Turned p t old came'.Over old
   turned_impossible t old z h =
       let s : steps_then t (steps_remaining p old) ≡ steps_remaining p old + 1 = ap (λ x. steps_then x (steps_remaining p old)) h in
       ((λ rs. ap (λ x. walk_then x (remaining p old) rs) h), omega arith)
 
   -- so does one that ends with a value
-  pub turned_leave : (t : Tree) (old new : List Side) (l : Left') → Stepped p t old (move'.Leave l) new → Turned p t old None new
+  pub turned_leave : (t : Tree) (old new : List Side) (l : Left') → Stepped p t old (move'.Leave l) new → Turned p t old came'.Over new
   turned_leave t old new l h =
       let s : steps_then t (steps_remaining p old) ≡ steps_remaining p old + 1 = ap (λ x. steps_then x (steps_remaining p old)) h.1 in
       let l : steps_remaining p new ≡ steps_remaining p old = ap (steps_remaining p) h.0 in
       ((λ rs. ap (λ x. walk_then x (remaining p old) rs) h.1 ∙ ap (λ l. remaining p l rs) (sym h.0)), omega arith)
 
   -- a side that ends leaves what is below it
-  pub turned_end : (t : Tree) (old new : List Side) → Stepped p t old move'.End new → Turned p t old None new
+  pub turned_end : (t : Tree) (old new : List Side) → Stepped p t old move'.End new → Turned p t old came'.Over new
   turned_end t old new h =
       let s : steps_then t (steps_remaining p old) ≡ steps_remaining p old + 1 = ap (λ x. steps_then x (steps_remaining p old)) h.1 in
       let l : steps_remaining p new ≡ steps_remaining p old = ap (steps_remaining p) h.0 in
       ((λ rs. ap (λ x. walk_then x (remaining p old) rs) h.1 ∙ ap (λ l. remaining p l rs) (sym h.0)), omega arith)
 
-  pub turned_go : (t : Tree) (old new : List Side) → Stepped p t old move'.Go new → Turned p t old None new
+  pub turned_go : (t : Tree) (old new : List Side) → Stepped p t old move'.Go new → Turned p t old came'.On new
   turned_go t old new h =
       let after : ℕ = steps_then (side_tree p h.0) (steps_remaining p old) in
       let s : steps_then t (steps_remaining p old) ≡ after + 1 = ap (λ x. steps_then x (steps_remaining p old)) h.2 in
       let l : steps_remaining p new ≡ after = ap (steps_remaining p) h.1 ∙ steps_below-push old h.0 0 in
       ((λ rs. ap (λ x. walk_then x (remaining p old) rs) h.2 ∙ ap (λ f. f rs) (sym (ap (remaining p) h.1 ∙ below-push old h.0 passed))), omega arith)
 
-  pub turned_fork : (t : Tree) (old new : List Side) → Stepped p t old move'.Fork new → Turned p t old None new
+  pub turned_fork : (t : Tree) (old new : List Side) → Stepped p t old move'.Fork new → Turned p t old came'.On new
   turned_fork t old new h =
       let after : ℕ = steps_then (side_tree p h.0) (steps_then (side_tree p h.1) (steps_remaining p old)) in
       let s : steps_then t (steps_remaining p old) ≡ after + 1 = ap (λ x. steps_then x (steps_remaining p old)) h.3 in
@@ -100,11 +102,11 @@ module _ (p : Program) where
       ∙ ap (λ f. probing q f (walk_then (side_tree p h.1) (remaining p old)) rs) (sym refuted)
       ∙ ap (λ f. probing q (remaining p (without_other new)) f rs) (sym otherwise)
 
-  pub turned_ask : (t : Tree) (old new : List Side) (q : Query) → Stepped p t old (move'.Check q) new → Turned p t old (Some q) new
+  pub turned_ask : (t : Tree) (old new : List Side) (q : Query) → Stepped p t old (move'.Check q) new → Turned p t old (came'.Asks q) new
   turned_ask t old new q h rs = turned_check q.probe t old new (query q) h rs
 
   pub popped : (before rest : List Side) (a : Side) → before ≡ rest ++ a ∷ [] → (rs : List Reply) → remaining p before rs ≡ walk_then (side_tree p a) (remaining p rest) rs
   popped before rest a e rs = ap (λ l. remaining p l rs) e ∙ ap (λ f. f rs) (below-push rest a passed)
 
-  pub popped_steps : (before rest : List Side) (a : Side) → before ≡ rest ++ a ∷ [] → steps_remaining p before ≡ steps_then (side_tree p a) (steps_remaining p rest)
-  popped_steps before rest a e = ap (steps_remaining p) e ∙ steps_below-push rest a 0
+  pub popped_fewer : (before rest new : List Side) (a : Side) → before ≡ rest ++ a ∷ [] → steps_remaining p new < steps_then (side_tree p a) (steps_remaining p rest) → steps_remaining p new < steps_remaining p before
+  popped_fewer before rest new a e h = subst (λ n. steps_remaining p new < n) (sym (ap (steps_remaining p) e ∙ steps_below-push rest a 0)) h

@@ -10,8 +10,14 @@ use Rattle.vx_machine.specs.declared.machine.Outcome.TheVariants as outcome'
 use Rattle.vx_machine.specs.declared.machine.Ask.{Ask}
 use Rattle.vx_machine.specs.declared.machine.Ask.TheVariants as ask'
 use Rattle.vx_machine.specs.declared.machine.Machine.{Machine}
+use Rattle.vx_machine.specs.declared.run.Came.{Came}
+use Rattle.vx_machine.specs.declared.run.Came.TheVariants as came'
+use Rattle.vx_machine.specs.declared.run.Found.{Found}
+use Rattle.vx_machine.specs.Growth.{without_other, without_last, GoesOn, Adds}
 use Rattle.vx_smt_meaning.specs.declared.reply.Reply.{Reply}
 use Rattle.vx_smt_meaning.specs.declared.reply.Reply.TheVariants.{Unsat}
+use Rattle.vx_terms.specs.Terms.{Term}
+use Rattle.vx_grows.specs.Grows.{Grows}
 use Rattle.vx_rules.specs.Trees.{Question, Tree, End, Answered, Walked, Passed, Failed, Open, ends, after_answer, asked, probed, walk, walk_then, passed, steps_then}
 use Rattle.vx_rules.specs.Members.{tree}
 use Rattle.vx_rules.specs.Codes.{code}
@@ -24,18 +30,6 @@ tree_of p (Some m) = tree p m.name m.kind
 
 abbrev pub member_tree : Program → ℕ → Tree
 member_tree p n = tree_of p (slice_get p n)
-
--- of the two candidates of a probe, on top of the stack, one goes: the other one, or the one where it is refuted
-abbrev pub without_other : List Side → List Side
-without_other [] = []
-without_other (a ∷ []) = a ∷ []
-without_other (b ∷ a ∷ []) = a ∷ []
-without_other (c ∷ b ∷ a ∷ rest) = c ∷ without_other (b ∷ a ∷ rest)
-
-abbrev pub without_last : List Side → List Side
-without_last [] = []
-without_last (a ∷ []) = []
-without_last (b ∷ a ∷ rest) = b ∷ without_last (a ∷ rest)
 
 -- a question, and then on
 abbrev pub asking : Question → (List Reply → Walked) → List Reply → Walked
@@ -91,15 +85,20 @@ module _ (p : Program) where
   waiting q sides = waiting_by q.probe (query q) sides
 
   -- from a tree over a stack to a stack, or to a question over a stack
-  abbrev pub Turned : Tree → List Side → Option Query → List Side → Type 0
-  Turned t old None new =
+  abbrev pub Turned : Tree → List Side → Came → List Side → Type 0
+  Turned t old (came'.Asks q) new = (rs : List Reply) → walk_then t (remaining old) rs ≡ waiting q new rs
+  Turned t old came new =
       ((rs : List Reply) → walk_then t (remaining old) rs ≡ remaining new rs) × (steps_remaining new < steps_then t (steps_remaining old))
-  Turned t old (Some q) new = (rs : List Reply) → walk_then t (remaining old) rs ≡ waiting q new rs
+
+  -- a turn of a side with this tree: where the walk is then, and that what goes on adds to the paths that the side adds to
+  pub record Turns (t : Tree) (old : List Side) (came : Came) (new : List Side) : Type 0 where
+    pub walks : Turned t old came new
+    pub adds : (base : List Term) → Grows base t → Adds p base came new
 
   -- from a stack to its next question, or to its end
-  abbrev pub RunsTo : List Side → Option Query → List Side → Type 0
+  abbrev pub RunsTo : List Side → Option Found → List Side → Type 0
   RunsTo old None new = (rs : List Reply) → remaining old rs ≡ passed rs
-  RunsTo old (Some q) new = (rs : List Reply) → remaining old rs ≡ waiting q new rs
+  RunsTo old (Some found) new = (rs : List Reply) → remaining old rs ≡ waiting found.query new rs
 
   -- what a machine makes of the replies to come
   abbrev pub coming : Phase → List Side → List Reply → Walked
@@ -116,11 +115,11 @@ module _ (p : Program) where
     pub replies : map (λ a. a.reply) answered ≡ given
     pub comes : (rs : List Reply) → walk t (given ++ rs) ≡ after_answers answered (coming phase sides rs)
 
-  -- the machine is where the walk through its member's tree is, and within its limit, or was given up
+  -- the machine is where the walk through its member's tree is, within its limit, and goes on from what is asked, or was given up
   abbrev pub Follows : Machine → Type 0
   Follows m =
       is_spent m.phase ≡ false →
-      IsAt (member_tree p m.member.0) m.phase m.conts.sides.items (given m) × Within m.phase m.limit (length m.replies.items)
+      IsAt (member_tree p m.member.0) m.phase m.conts.sides.items (given m) × Within m.phase m.limit (length m.replies.items) × GoesOn p m.phase m.conts.sides.items
 
 abbrev pub awaits : Phase → Bool
 awaits (phase'.Asked q) = true

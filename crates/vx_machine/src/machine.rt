@@ -5,9 +5,10 @@ ghost use Rattle.vx_rules.specs.Members.{predicate_over, rules, tree};
 ghost use Rattle.vx_rules.specs.Trees.{walk};
 ghost use Rattle.vx_resolved.specs.Resolved.{member as member_of, predicate};
 ghost use Rattle.vx_resolved.specs.Settled.{settled};
-ghost use Rattle.vx_machine.specs.Runs.{IsAt, Within, Follows, Told, EachAnswered, Shows, outcome_of, awaits as is_awaiting, given, member_tree, option_list, is_unsat, remaining, without_other, without_last};
+ghost use Rattle.vx_machine.specs.Growth.{AsksOnTop, GoesOn, IsOpen, Stays, without_other, without_last};
+ghost use Rattle.vx_machine.specs.Runs.{IsAt, Within, Follows, Told, EachAnswered, Shows, outcome_of, awaits as is_awaiting, given, member_tree, option_list, is_unsat, remaining};
 
-use crate::run::run;
+use crate::run::{Found, run};
 use std::alloc::{AllocError, Global};
 use std::mem;
 use vx_ast::{MemberId, Place};
@@ -59,6 +60,8 @@ pub struct Machine {
     pub phase: Phase,
     pub replies: Vec<Reply>,
     pub limit: u32,
+    /// The path of the open question begins with the path of the question that was answered just before.
+    pub stays: bool,
 }
 
 /// Of the two candidates of a probe the other one goes.
@@ -155,6 +158,7 @@ impl Machine {
         ensures limit { IfOk result (λ m. m.limit ≡ limit) }
         ensures replies { IfOk result (λ m. m.replies.items ≡ []) }
         ensures ready { IfOk result (λ m. m.phase ≡ Phase.Ready) }
+        ensures stays { IfOk result (λ m. m.stays ≡ false) }
     {
         let conts = first_sides(alloc, program, program.member(member.0 as usize))?;
         Ok(Machine {
@@ -163,6 +167,7 @@ impl Machine {
             phase: Phase::Ready,
             replies: Vec::new(alloc),
             limit,
+            stays: false,
         })
     }
 
@@ -173,9 +178,10 @@ impl Machine {
         matches!(self.phase, Phase::Asked(_))
     }
 
-    /// On to the next question, or to the end.
-    fn go_on(&mut self, alloc: Global, program: &Settled) -> Result<Ask, AllocError>
+    /// On to the next question, or to the end; `answered` tells whether a question was answered just before.
+    fn go_on(&mut self, alloc: Global, program: &Settled, answered: bool) -> Result<Ask, AllocError>
         requires spent { self.old.phase ≡ Phase.Spent }
+        requires stays { self.old.stays ≡ false }
         requires at { IsAt (settled program.now) (member_tree (settled program.now) self.old.member.0) Phase.Ready self.old.conts.sides.items (given self.old) }
         requires within { Within Phase.Ready self.old.limit (length self.old.replies.items) }
         ensures follows { Follows (settled program.now) self.new }
@@ -185,6 +191,8 @@ impl Machine {
         ensures member { self.new.member ≡ self.old.member }
         ensures limit { self.new.limit ≡ self.old.limit }
         ensures shows { IfOk result (λ ask. Shows self.new.phase self.new.limit ask) }
+        ensures stays { IfOk result (λ ask. self.new.stays ≡ true → (answered ≡ true) × AsksOnTop (settled program.now) self.old.conts.sides.items ask) }
+        ensures open { IfOk result (λ ask. IsOpen self.new.phase ask) }
         ensures err { OnErr result (self.new.phase ≡ Phase.Spent) }
     {
         match run(alloc, program, &mut self.conts)? {
@@ -192,12 +200,14 @@ impl Machine {
                 self.phase = Phase::Passed;
                 Ok(Ask::Done(Outcome::Passed))
             }
-            Some(query) => {
+            Some(found) => {
+                let Found { query, stays } = found;
                 if self.replies.len() >= self.limit as usize {
                     self.phase = Phase::Limited(query);
                     return Ok(Ask::Done(Outcome::Limit { checks: self.limit }));
                 }
                 let kept = query.copy()?;
+                self.stays = answered & stays;
                 self.phase = Phase::Asked(kept);
                 Ok(Ask::Check(query))
             }
@@ -207,6 +217,7 @@ impl Machine {
     /// The open question was not refuted, and it is no probe.
     fn fail(&mut self, program: &Settled, query: Query, reply: Reply) -> Result<Ask, AllocError>
         requires spent { self.old.phase ≡ Phase.Spent }
+        requires stays { self.old.stays ≡ false }
         requires kind { is_unsat reply ≡ false }
         requires probe { query.probe ≡ false }
         requires at { IsAt (settled program.now) (member_tree (settled program.now) self.old.member.0) (Phase.Asked query) self.old.conts.sides.items (given self.old) }
@@ -217,6 +228,8 @@ impl Machine {
         ensures member { self.new.member ≡ self.old.member }
         ensures limit { self.new.limit ≡ self.old.limit }
         ensures shows { IfOk result (λ ask. Shows self.new.phase self.new.limit ask) }
+        ensures stays { IfOk result (λ _. self.new.stays ≡ false) }
+        ensures open { IfOk result (λ ask. IsOpen self.new.phase ask) }
         ensures err { OnErr result (self.new.phase ≡ Phase.Spent) }
     {
         let _program = program;
@@ -236,8 +249,10 @@ impl Machine {
         reply: Reply,
     ) -> Result<Ask, AllocError>
         requires spent { self.old.phase ≡ Phase.Spent }
+        requires stays { self.old.stays ≡ false }
         requires at { IsAt (settled program.now) (member_tree (settled program.now) self.old.member.0) (Phase.Asked query) self.old.conts.sides.items (given self.old) }
         requires within { Within (Phase.Asked query) self.old.limit (length self.old.replies.items) }
+        requires goes_on { GoesOn (settled program.now) (Phase.Asked query) self.old.conts.sides.items }
         ensures follows { Follows (settled program.now) self.new }
         ensures told { IfOk result (λ ask. Told ask (walk (member_tree (settled program.now) self.new.member.0) (given self.new)) self.new.limit (length self.new.replies.items)) }
         ensures answered { OnOk result (EachAnswered (walk (member_tree (settled program.now) self.new.member.0) (given self.new)) (given self.new)) }
@@ -245,19 +260,21 @@ impl Machine {
         ensures member { self.new.member ≡ self.old.member }
         ensures limit { self.new.limit ≡ self.old.limit }
         ensures shows { IfOk result (λ ask. Shows self.new.phase self.new.limit ask) }
+        ensures stays { IfOk result (λ ask. self.new.stays ≡ true → Stays (Phase.Asked query) ask) }
+        ensures open { IfOk result (λ ask. IsOpen self.new.phase ask) }
         ensures err { OnErr result (self.new.phase ≡ Phase.Spent) }
     {
         let refuted = is_refuted(reply);
         if query.probe {
             choose(&mut self.conts, refuted)?;
             self.replies.push(reply)?;
-            return self.go_on(alloc, program);
+            return self.go_on(alloc, program, true);
         }
         if !refuted {
             return self.fail(program, query, reply);
         }
         self.replies.push(reply)?;
-        self.go_on(alloc, program)
+        self.go_on(alloc, program, true)
     }
 
     /// On to the next question, or to the end. A reply is given exactly where one is awaited, to the `Settled` that the
@@ -280,13 +297,16 @@ impl Machine {
         ensures member { self.new.member ≡ self.old.member }
         ensures limit { self.new.limit ≡ self.old.limit }
         ensures shows { IfOk result (λ ask. Shows self.new.phase self.new.limit ask) }
+        ensures stays { IfOk result (λ ask. self.new.stays ≡ true → Stays self.old.phase ask) }
+        ensures open { IfOk result (λ ask. IsOpen self.new.phase ask) }
         ensures done { IfSome (outcome_of self.old.phase self.old.limit) (λ outcome. IsOkAnd result (λ ask. ask ≡ Ask.Done outcome)) }
         ensures spent { self.old.phase ≡ Phase.Spent → is_err result ≡ true }
         ensures err { OnErr result (self.new.phase ≡ Phase.Spent) }
     {
         let phase = mem::replace(&mut self.phase, Phase::Spent);
+        self.stays = false;
         match phase {
-            Phase::Ready => self.go_on(alloc, program),
+            Phase::Ready => self.go_on(alloc, program, false),
             Phase::Asked(query) => match reply {
                 Some(reply) => self.answer(alloc, program, query, reply),
                 None => unreachable!(),

@@ -2,7 +2,8 @@
 
 ghost use Rattle.std.specs.Prelude.{IfOk, List};
 ghost use Rattle.vx_ast.specs.Syntax.{Program};
-ghost use Rattle.vx_machine.specs.Runs.{Turned, RunsTo};
+ghost use Rattle.vx_machine.specs.Growth.{FindsFrom};
+ghost use Rattle.vx_machine.specs.Runs.{Turns, RunsTo};
 ghost use Rattle.vx_resolved.specs.Settled.{settled};
 ghost use Rattle.vx_rules.specs.Trees.{Tree};
 ghost use Rattle.vx_stack.specs.declared.frame.Side.{Side as SideOf};
@@ -15,49 +16,65 @@ use vx_resolved::Settled;
 use vx_stack::{Conts, Move, Query, Side};
 use vx_steps::step;
 
-/// The question that a step came to.
-fn question(moved: Move) -> Option<Query>
-    ensures { (p : Program) (t : Tree) (old new : List SideOf) → Stepped p t old moved new → Turned p t old result new }
+/// What a turn of a side came to.
+#[derive(Drop)]
+enum Came {
+    /// The side is over.
+    Over,
+    /// It goes on, on top of the stack; of a fork the one side does.
+    On,
+    Asks(Query),
+}
+
+/// A question that was come to.
+#[derive(Drop)]
+pub struct Found {
+    pub query: Query,
+    /// Whether what was on top of the stack at the start came to it: no side was over before.
+    pub stays: bool,
+}
+
+/// What a step came to.
+fn came_to(moved: Move) -> Came
+    ensures { (p : Program) (t : Tree) (old new : List SideOf) → Stepped p t old moved new → Turns p t old result new }
 {
     match moved {
-        Move::End => None,
-        Move::Leave(_left) => None,
-        Move::Go => None,
-        Move::Fork => None,
-        Move::Check(query) => Some(query),
+        Move::End => Came::Over,
+        Move::Leave(_left) => Came::Over,
+        Move::Go => Came::On,
+        Move::Fork => Came::On,
+        Move::Check(query) => Came::Asks(query),
     }
 }
 
 /// One step, or the end of a side.
-fn turn(
-    alloc: Global,
-    program: &Settled,
-    side: Side,
-    conts: &mut Conts,
-) -> Result<Option<Query>, AllocError>
-    ensures { IfOk result (λ o. Turned (settled program.now) (side_tree (settled program.now) side) conts.old.sides.items o conts.new.sides.items) }
+fn turn(alloc: Global, program: &Settled, side: Side, conts: &mut Conts) -> Result<Came, AllocError>
+    ensures { IfOk result (λ came. Turns (settled program.now) (side_tree (settled program.now) side) conts.old.sides.items came conts.new.sides.items) }
 {
     match come_back(alloc, side)? {
-        Ready::Over => Ok(None),
+        Ready::Over => Ok(Came::Over),
         Ready::Telling(x, hole, state) => {
             let moved = tell(alloc, program, &x, &hole, state, LEVELS, conts)?;
-            Ok(question(moved))
+            Ok(came_to(moved))
         }
         Ready::Plain(frame, state) => {
             let moved = step(alloc, program, &frame, state, conts)?;
-            Ok(question(moved))
+            Ok(came_to(moved))
         }
     }
 }
 
 /// On to the next question, or to the end.
-pub fn run(alloc: Global, program: &Settled, conts: &mut Conts) -> Result<Option<Query>, AllocError>
-    ensures { IfOk result (λ o. RunsTo (settled program.now) conts.old.sides.items o conts.new.sides.items) }
+pub fn run(alloc: Global, program: &Settled, conts: &mut Conts) -> Result<Option<Found>, AllocError>
+    ensures runs { IfOk result (λ found. RunsTo (settled program.now) conts.old.sides.items found conts.new.sides.items) }
+    ensures stays { IfOk result (λ found. FindsFrom (settled program.now) conts.old.sides.items found conts.new.sides.items) }
 {
+    let mut stays = true;
     while let Some(side) = conts.sides.pop() {
         match turn(alloc, program, side, conts)? {
-            Some(query) => return Ok(Some(query)),
-            None => {}
+            Came::Over => stays = false,
+            Came::On => {}
+            Came::Asks(query) => return Ok(Some(Found { query, stays })),
         }
     }
     Ok(None)

@@ -1,5 +1,5 @@
 use Rattle.std.proofs.Common.{sym, ap, ◌∙◌}
-use Rattle.vx_machine.specs.Runs.{without_last}
+use Rattle.vx_machine.specs.Growth.{without_last}
 use Rattle.vx_machine.proofs.Walks.{without_last-push}
 use Rattle.vx_machine.proofs.machine.drop_last.Goals as goal
 

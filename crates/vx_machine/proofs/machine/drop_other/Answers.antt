@@ -1,5 +1,5 @@
 use Rattle.std.proofs.Common.{sym, ap, ◌∙◌, ◌++◌, ◌∷◌, [], append_assoc}
-use Rattle.vx_machine.specs.Runs.{without_other}
+use Rattle.vx_machine.specs.Growth.{without_other}
 use Rattle.vx_machine.proofs.Walks.{without_other-two}
 use Rattle.vx_machine.proofs.machine.drop_other.Goals as goal
 

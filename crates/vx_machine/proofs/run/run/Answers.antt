@@ -1,26 +1,42 @@
-use Rattle.std.proofs.Common.{◌≡◌, ◌<◌, ◌∙◌}
+use Rattle.std.proofs.Common.{◌∙◌}
 use Rattle.vx_resolved.specs.Settled.{settled}
-use Rattle.vx_stack.specs.Stack.{side_tree}
-use Rattle.vx_rules.specs.Trees.{steps_then}
-use Rattle.vx_machine.specs.Runs.{steps_remaining}
-use Rattle.vx_machine.proofs.Walks.{popped, popped_steps}
+use Rattle.vx_rules.specs.States.{path_terms}
+use Rattle.vx_states.specs.SymStates.{state}
+use Rattle.vx_grows_stack.proofs.Frames.{sides_grow}
+use Rattle.vx_machine.proofs.Walks.{popped, popped_fewer}
 use Rattle.vx_machine.proofs.run.run.Goals as goal
 
-pub returns-in-Some-2 : goal.returns-in-Some-2
-returns-in-Some-2 c =
-    let t = rw c.in-Some-2.is at c.in_ok-query.ensures in
-    λ rs. c.loop-side.invariant rs ∙ popped (settled c.args.program.now) _ _ _ c.in-Some.ensures.items rs ∙ t rs
+pub returns-in-Asks-clause-runs : goal.returns-in-Asks-clause-runs
+returns-in-Asks-clause-runs c =
+    let t = rw c.in-Asks.is at c.in_ok-turn.ensures in
+    λ rs. c.loop-side.invariant.0 rs ∙ popped (settled c.args.program.now) _ _ _ c.in-Some.ensures.items rs ∙ t.walks rs
+
+pub returns-in-Asks-clause-stays : goal.returns-in-Asks-clause-stays
+returns-in-Asks-clause-stays c =
+    let t = rw c.in-Asks.is at c.in_ok-turn.ensures in
+    let side = c.in-Some.side in (
+      λ stays base h. (t.adds base (c.loop-side.invariant.1 stays base h c.pop.new.self.items side c.in-Some.ensures.items)).0,
+      (t.adds (path_terms (state side.state).path) (sides_grow (settled c.args.program.now) side)).1,
+    )
+
+pub loop-side-smaller-in-Over : goal.loop-side-smaller-in-Over
+loop-side-smaller-in-Over c =
+    let t = rw c.in-Over.is at c.in_ok-turn.ensures in
+    popped_fewer (settled c.args.program.now) _ _ c.turn.new.conts.sides.items _ c.in-Some.ensures.items t.walks.1
 
 pub loop-side-smaller : goal.loop-side-smaller
 loop-side-smaller c =
-    let p = settled c.args.program.now in
-    let t = rw c.in-None.is at c.in_ok-query.ensures in
-    let e : steps_remaining p c.loop-side.conts.sides.items ≡ steps_then (side_tree p c.in-Some.side) (steps_remaining p c.pop.new.self.items) = popped_steps p _ _ _ c.in-Some.ensures.items in
-    let l : steps_remaining p c.turn.new.conts.sides.items < steps_then (side_tree p c.in-Some.side) (steps_remaining p c.pop.new.self.items) = t.1 in
-    let r : steps_remaining p c.turn.new.conts.sides.items < steps_remaining p c.loop-side.conts.sides.items = rw e l in
-    r
+    let t = rw c.in-On.is at c.in_ok-turn.ensures in
+    popped_fewer (settled c.args.program.now) _ _ c.turn.new.conts.sides.items _ c.in-Some.ensures.items t.walks.1
+
+pub loop-side-preserved-in-Over : goal.loop-side-preserved-in-Over
+loop-side-preserved-in-Over c =
+    let t = rw c.in-Over.is at c.in_ok-turn.ensures in
+    (λ rs. c.loop-side.invariant.0 rs ∙ popped (settled c.args.program.now) _ _ _ c.in-Some.ensures.items rs ∙ t.walks.0 rs, λ stays. cc)
 
 pub loop-side-preserved : goal.loop-side-preserved
 loop-side-preserved c =
-    let t = rw c.in-None.is at c.in_ok-query.ensures in
-    λ rs. c.loop-side.invariant rs ∙ popped (settled c.args.program.now) _ _ _ c.in-Some.ensures.items rs ∙ t.0 rs
+    let t = rw c.in-On.is at c.in_ok-turn.ensures in (
+      λ rs. c.loop-side.invariant.0 rs ∙ popped (settled c.args.program.now) _ _ _ c.in-Some.ensures.items rs ∙ t.walks.0 rs,
+      λ stays base h. t.adds base (c.loop-side.invariant.1 stays base h c.pop.new.self.items c.in-Some.side c.in-Some.ensures.items),
+    )

@@ -3,7 +3,8 @@ use Rattle.vx_resolved.specs.Settled.{settled}
 use Rattle.vx_stack.specs.declared.frame.Side.{Side}
 use Rattle.vx_rules.specs.Trees.{Tree}
 use Rattle.vx_machine.specs.declared.machine.Phase.TheVariants as phase'
-use Rattle.vx_machine.specs.Runs.{given, member_tree, is_unsat, without_other, without_last}
+use Rattle.vx_machine.specs.Growth.{without_other, without_last}
+use Rattle.vx_machine.specs.Runs.{given, member_tree, is_unsat}
 use Rattle.vx_machine.proofs.Follow.{at_refuted, at_chosen, given_more}
 use Rattle.vx_machine.proofs.machine.Machine.answer.Goals as goal
 

@@ -17,6 +17,7 @@ returns-clause-follows c e =
       given_more p t phase sides c.args.self.now.replies.items c.push.new.self.items c.args.reply c.in_ok-push.ensures.items
           (at_failed p t (given c.args.self.now) sides c.args.query c.args.reply c.requires.probe c.requires.kind c.requires.at),
       tt,
+      tt,
     )
 
 pub returns-clause-told : goal.returns-clause-told

@@ -15,7 +15,7 @@ returns-in-None-clause-told c =
     let t : Tree = member_tree p c.args.self.now.member.0 in
     let g : List Reply = given c.args.self.now in
     let new : List Side = c.run.new.conts.sides.items in
-    ending_now p t g phase'.Passed new (at_end p t g _ new c.requires.at (rw c.in-None.is at c.in_ok-run.ensures))
+    ending_now p t g phase'.Passed new (at_end p t g _ new c.requires.at (rw c.in-None.is at c.in_ok-run.ensures.runs))
 
 pub returns-in-None-clause-answered : goal.returns-in-None-clause-answered
 returns-in-None-clause-answered c =
@@ -23,7 +23,7 @@ returns-in-None-clause-answered c =
     let t : Tree = member_tree p c.args.self.now.member.0 in
     let g : List Reply = given c.args.self.now in
     let new : List Side = c.run.new.conts.sides.items in
-    answered_now p t g phase'.Passed new (at_end p t g _ new c.requires.at (rw c.in-None.is at c.in_ok-run.ensures)) refl
+    answered_now p t g phase'.Passed new (at_end p t g _ new c.requires.at (rw c.in-None.is at c.in_ok-run.ensures.runs)) refl
 
 pub returns-then-len-self-clause-told : goal.returns-then-len-self-clause-told
 returns-then-len-self-clause-told c =
@@ -31,13 +31,14 @@ returns-then-len-self-clause-told c =
     let t : Tree = member_tree p c.args.self.now.member.0 in
     let g : List Reply = given c.args.self.now in
     let new : List Side = c.run.new.conts.sides.items in
-    let q = c.in-Some.query in
+    let f = c.in-Some.found in
+    let q = f.query in
     let e : c.args.self.now.limit ≡ length c.args.self.now.replies.items = omega (arith, c.requires.within, c.len.ensures, c.args.self.now.replies.ok.0, c.if-len-self.true) in (
       e,
       e,
       (
         query q,
-        ending_now p t g (phase'.Limited q) new (at_limit p t g _ new q c.requires.at (rw c.in-Some.is at c.in_ok-run.ensures)) ∙ ap (λ w. w.ending) (waiting_ends p q.probe (query q) new),
+        ending_now p t g (phase'.Limited q) new (at_limit p t g _ new f c.requires.at (rw c.in-Some.is at c.in_ok-run.ensures.runs)) ∙ ap (λ w. w.ending) (waiting_ends p q.probe (query q) new),
       ),
     )
 
@@ -47,8 +48,9 @@ returns-then-len-self-clause-answered c =
     let t : Tree = member_tree p c.args.self.now.member.0 in
     let g : List Reply = given c.args.self.now in
     let new : List Side = c.run.new.conts.sides.items in
-    let q = c.in-Some.query in
-    answered_now p t g (phase'.Limited q) new (at_limit p t g _ new q c.requires.at (rw c.in-Some.is at c.in_ok-run.ensures)) (ap (λ w. w.answered) (waiting_ends p q.probe (query q) new))
+    let f = c.in-Some.found in
+    let q = f.query in
+    answered_now p t g (phase'.Limited q) new (at_limit p t g _ new f c.requires.at (rw c.in-Some.is at c.in_ok-run.ensures.runs)) (ap (λ w. w.answered) (waiting_ends p q.probe (query q) new))
 
 pub returns-in_ok-kept-in-Some-clause-told : goal.returns-in_ok-kept-in-Some-clause-told
 returns-in_ok-kept-in-Some-clause-told c =
@@ -57,7 +59,7 @@ returns-in_ok-kept-in-Some-clause-told c =
     let g : List Reply = given c.args.self.now in
     let new : List Side = c.run.new.conts.sides.items in
     let k = c.in_ok-kept-in-Some.kept in (
-      ending_now p t g (phase'.Asked k) new (at_question p t g _ new c.in-Some.query k c.requires.at (rw c.in-Some.is at c.in_ok-run.ensures) c.in_ok-kept-in-Some.ensures)
+      ending_now p t g (phase'.Asked k) new (at_question p t g _ new c.in-Some.found k c.requires.at (rw c.in-Some.is at c.in_ok-run.ensures.runs) c.in_ok-kept-in-Some.ensures)
           ∙ ap (λ w. w.ending) (waiting_ends p k.probe (query k) new) ∙ ap Open c.in_ok-kept-in-Some.ensures,
       omega (arith, c.len.ensures, c.args.self.now.replies.ok.0, c.if-len-self.false),
     )
@@ -69,5 +71,5 @@ returns-in_ok-kept-in-Some-clause-answered c =
     let g : List Reply = given c.args.self.now in
     let new : List Side = c.run.new.conts.sides.items in
     let k = c.in_ok-kept-in-Some.kept in
-    answered_now p t g (phase'.Asked k) new (at_question p t g _ new c.in-Some.query k c.requires.at (rw c.in-Some.is at c.in_ok-run.ensures) c.in_ok-kept-in-Some.ensures)
+    answered_now p t g (phase'.Asked k) new (at_question p t g _ new c.in-Some.found k c.requires.at (rw c.in-Some.is at c.in_ok-run.ensures.runs) c.in_ok-kept-in-Some.ensures)
     (ap (λ w. w.answered) (waiting_ends p k.probe (query k) new))
