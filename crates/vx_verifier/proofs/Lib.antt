@@ -18,3 +18,4 @@ mod Sorted
 mod FunctionSymbols
 mod Declared
 mod Fit
+mod Standing

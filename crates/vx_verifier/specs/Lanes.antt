@@ -9,6 +9,9 @@ use Rattle.vx_ends.specs.declared.piece.Start.{Start}
 use Rattle.vx_ends.specs.declared.piece.Ending.{Ending}
 use Rattle.vx_smt_meaning.specs.declared.reply.Reply.{Reply}
 use Rattle.vx_rules.specs.Trees.{Question, walk}
+use Rattle.vx_terms.specs.Terms.{Term}
+use Rattle.vx_segments.specs.Segments.{terms}
+use Rattle.vx_machine.specs.Growth.{IsOpen}
 use Rattle.vx_machine.specs.Runs.{Follows, Told, EachAnswered, awaits, is_check, given, member_tree}
 use Rattle.vx_machine.specs.declared.machine.Machine.{Machine}
 use Rattle.vx_machine.specs.declared.machine.Ask.{Ask}
@@ -17,7 +20,8 @@ use Rattle.vx_machine.specs.declared.machine.Outcome.{Outcome}
 use Rattle.vx_machine.specs.declared.machine.Outcome.TheVariants as outcome
 use Rattle.vx_dialogue.specs.Turns.{Turn, Asks, Posts}
 use Rattle.vx_dialogue.specs.Scripts.{Outside, ScopedTurn, plain, said_by, scope_from, script}
-use Rattle.vx_dialogue.specs.Dialogue.{IsFree, has_failed, Stands}
+use Rattle.vx_dialogue.specs.Bases.{standing}
+use Rattle.vx_dialogue.specs.Dialogue.{IsFree, has_failed, scope_of, Stands}
 use Rattle.vx_dialogue.specs.declared.talk.Talk.{Talk}
 use Rattle.vx_dialogue.specs.declared.talk.Talk.TheVariants as talk
 use Rattle.vx_report.specs.declared.run.Cause.{Cause}
@@ -65,6 +69,12 @@ abbrev pub is_started : {L : Type 0} → Child L → Bool
 is_started NotStarted = false
 is_started (Talking d) = true
 is_started Lost = true
+
+-- the path whose levels are open at a child
+abbrev pub standing_of : {L : Type 0} → Child L → List Term
+standing_of (Talking d) = terms (standing (scope_of d))
+standing_of NotStarted = []
+standing_of Lost = []
 
 -- These turns say nothing, as long as no child is started.
 pub record AreSilent (turns : List ScopedTurn) : Type 0 where
@@ -144,6 +154,7 @@ IsDue (Done o) limit checks = ⊤
 pub record IsRunning (p : Program) (n : ℕ) (machine : Machine) (ask : Ask) : Type 0 where
   pub follows : Follows p machine
   pub awaits : awaits machine.phase ≡ is_check ask
+  pub opened : IsOpen machine.phase ask
   pub due : IsDue ask machine.limit (length machine.replies.items)
   pub limit : machine.limit ≡ 100000
   pub member : machine.member.0 ≡ n

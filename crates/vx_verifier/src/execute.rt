@@ -10,6 +10,7 @@ ghost use Rattle.vx_resolved.specs.Resolved.{kind as kind_of};
 ghost use Rattle.vx_resolved.specs.Settled.{settled};
 ghost use Rattle.vx_report.specs.Reports.{AreNamed, RestWithin, is_faulted, is_resting};
 ghost use Rattle.vx_resting.specs.Resting.{NoneRests};
+ghost use Rattle.vx_machine.specs.Growth.{Stays};
 ghost use Rattle.vx_machine.specs.Runs.{Follows, awaits, member_tree};
 ghost use Rattle.vx_live.specs.Functions.{function_symbols};
 ghost use Rattle.vx_verifier.specs.Causes.{HasCauseOf, NoCountRose};
@@ -84,6 +85,7 @@ fn begin(alloc: Global, program: &Settled, member: MemberId) -> Result<Running, 
     requires { member.0 < length (settled program.now) }
     ensures running { IfOk result (λ r. IsRunning (settled program.now) member.0 r.machine r.ask) }
     ensures none { IfOk result (λ r. r.machine.replies.items ≡ []) }
+    ensures stays { IfOk result (λ r. r.machine.stays ≡ true → ⊥) }
 {
     let mut machine = Machine::start(alloc, program, member, LIMIT)?;
     let ask = machine.next(alloc, program, None)?;
@@ -102,6 +104,7 @@ fn go_on(
     requires limit { machine.limit ≡ LIMIT }
     ensures running { IfOk result (λ r. IsRunning (settled program.now) machine.member.0 r.machine r.ask) }
     ensures one_more { IfOk result (λ r. r.machine.replies.items ≡ machine.replies.items ++ reply ∷ []) }
+    ensures stays { IfOk result (λ r. r.machine.stays ≡ true → Stays machine.phase r.ask) }
 {
     let mut machine = machine;
     let ask = machine.next(alloc, program, Some(reply))?;
@@ -172,7 +175,8 @@ fn judge<W: Spawner, N: Turns>(
         };
         // One child waits, so any turn is its own.
         let _turn = turns.pick(1);
-        let (kept, reply) = ask(alloc, spawner, command, functions, child, &query);
+        let stays = machine.stays;
+        let (kept, reply) = ask(alloc, spawner, command, functions, child, &query, stays);
         child = kept;
         let reply = match reply {
             Ok(reply) => reply,

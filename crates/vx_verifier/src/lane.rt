@@ -6,19 +6,26 @@ ghost use Rattle.vx_ends.specs.declared.piece.Ending.{Ending};
 ghost use Rattle.vx_smt_meaning.specs.Commands as smt;
 ghost use Rattle.vx_smt_meaning.specs.Dialogues.{Check};
 ghost use Rattle.vx_smt_meaning.specs.Views.{declared_symbol};
+ghost use Rattle.vx_segments.specs.Segments.{terms};
+ghost use Rattle.vx_segments.specs.Views.{entry};
+ghost use Rattle.vx_grows.specs.Grows.{Begins};
+ghost use Rattle.vx_dialogue.specs.Bases.{path_behind, standing};
+ghost use Rattle.vx_dialogue.specs.Dialogue.{scope_of};
+ghost use Rattle.vx_dialogue.specs.Scripts.{Outside};
 ghost use Rattle.vx_dialogue.specs.Turns.{Turn};
 ghost use Rattle.vx_rules.specs.Trees.{Question};
 ghost use Rattle.vx_stack.specs.Stack as rules;
 ghost use Rattle.vx_verifier.specs.Headline.{left_turn};
 ghost use Rattle.vx_verifier.specs.Steady.{AreSpelled, IsSpelled, IsCalmLane};
 ghost use Rattle.vx_verifier.specs.Lanes as spec;
-ghost use Rattle.vx_verifier.specs.Lanes.{IsReady, IsHeld, OthersOwe, links, is_fault, is_lost, is_started, Hears, HearsOf, Records, Loses, Starts, Later};
+ghost use Rattle.vx_verifier.specs.Lanes.{IsReady, IsHeld, OthersOwe, links, is_fault, is_lost, is_started, standing_of, Hears, HearsOf, Records, Loses, Starts, Later};
 
-use std::alloc::Global;
-use vx_dialogue::{Dialogue, Talk};
+use std::alloc::{AllocError, Global};
+use vx_dialogue::{Base, Dialogue, Talk};
 use vx_ends::{Link, Parts, Spawner, StartFault};
 use vx_report::Cause;
 use vx_rules::Reply;
+use vx_segments::Entry;
 use vx_smt_meaning::Declared;
 use vx_stack::Query;
 
@@ -62,6 +69,7 @@ fn start<W: Spawner>(
     ensures held { MatchResult result (λ d. IsHeld (Child.Talking d) (W.owed spawner.new LANE)) (λ lost. IsHeld lost.0 (W.owed spawner.new LANE)) }
     ensures owed { W.owed spawner.new LANE ≡ W.owed spawner.old LANE + (if is_ok result then 1 else 0) }
     ensures other_lanes { OthersOwe (W.owed spawner.old) (W.owed spawner.new) }
+    ensures outside { IfOk result (λ d. scope_of d ≡ Outside) }
     ensures links { IfErr result (λ lost. links lost.0 ≡ 0) }
     ensures child { IfErr result (λ lost. is_fault lost.1 ≡ true → is_lost lost.0 ≡ true) }
     ensures told { (before : List Ending) (turns : List Turn) (checks : List Check) → Hears W.Link.dialogue (map declared_symbol functions.now) before (W.ended spawner.old) Child.NotStarted turns checks
@@ -89,15 +97,35 @@ fn start<W: Spawner>(
     }
 }
 
-// The reply to a question; a child that gives none is handed back.
+// A question's path as its dialogue takes it: where it goes on from what stands there, what is new.
+fn path_for<L: Link>(
+    alloc: Global,
+    dialogue: &Dialogue<L>,
+    query: &Query,
+    stays: bool,
+) -> Result<(Base, Vec<Entry>), AllocError>
+    requires { stays ≡ true → Begins (terms (standing (scope_of dialogue.now))) (rules.query query.now).path }
+    ensures { IfOk result (λ r. terms (path_behind r.0 (scope_of dialogue.now) (map entry r.1.items)) ≡ (rules.query query.now).path) }
+{
+    if stays {
+        let new = query.count - dialogue.standing();
+        return Ok((Base::Standing, query.path.newest(alloc, new)?));
+    }
+    Ok((Base::Nothing, query.path.entries(alloc)?))
+}
+
+// The reply to a question, whose path stays or begins anew; a child that gives none is handed back.
 fn talk<W: Spawner>(
     alloc: Global,
     spawner: &mut W,
     dialogue: Dialogue<W::Link>,
     query: &Query,
+    stays: bool,
 ) -> (Child<W::Link>, Result<Reply, Trouble>)
     requires held { IsHeld (Child.Talking dialogue) (W.owed spawner.old LANE) }
     requires spelled { IsSpelled (rules.query query.now) }
+    requires stays { stays ≡ true → Begins (standing_of (Child.Talking dialogue)) (rules.query query.now).path }
+    ensures stands { IfOk result.1 (λ _. standing_of result.0 ≡ (rules.query query.now).path) }
     ensures held { IsHeld result.0 (W.owed spawner.new LANE) }
     ensures owed { W.owed spawner.new LANE + 1 ≡ W.owed spawner.old LANE + links result.0 }
     ensures other_lanes { OthersOwe (W.owed spawner.old) (W.owed spawner.new) }
@@ -113,14 +141,14 @@ fn talk<W: Spawner>(
         → IsCalmLane W.Link.dialogue W.Link.steady W.Link.faults before (W.ended spawner.new) (W.steady spawner.new) count (W.faults spawner.new) result.0 }
 {
     let mut dialogue = dialogue;
-    let path = match query.path.entries(alloc) {
+    let (base, path) = match path_for(alloc, &dialogue, query, stays) {
         Ok(path) => path,
         Err(_) => {
             spawner.finish(LANE, dialogue.close());
             return (Child::Lost, Err(Trouble::Want));
         }
     };
-    match dialogue.ask(alloc, &path, &query.condition) {
+    match dialogue.ask(alloc, base, &path, &query.condition) {
         Ok(reply) => (Child::Talking(dialogue), Ok(reply)),
         Err(talk) => {
             spawner.finish(LANE, dialogue.close());
@@ -129,7 +157,7 @@ fn talk<W: Spawner>(
     }
 }
 
-/// Asks the lane's child, which is started where there was none yet.
+/// Asks the lane's child, which is started where there was none yet. The path stays where it goes on from the one that stands at the child.
 pub fn ask<W: Spawner>(
     alloc: Global,
     spawner: &mut W,
@@ -137,10 +165,13 @@ pub fn ask<W: Spawner>(
     functions: &[Declared],
     child: Child<W::Link>,
     query: &Query,
+    stays: bool,
 ) -> (Child<W::Link>, Result<Reply, Trouble>)
     requires held { IsHeld child (W.owed spawner.old LANE) }
     requires named { AreSpelled (map declared_symbol functions.now) }
     requires spelled { IsSpelled (rules.query query.now) }
+    requires stays { stays ≡ true → Begins (standing_of child) (rules.query query.now).path }
+    ensures stands { IfOk result.1 (λ _. standing_of result.0 ≡ (rules.query query.now).path) }
     ensures held { IsHeld result.0 (W.owed spawner.new LANE) }
     ensures owed { W.owed spawner.new LANE + links child ≡ W.owed spawner.old LANE + links result.0 }
     ensures other_lanes { OthersOwe (W.owed spawner.old) (W.owed spawner.new) }
@@ -158,10 +189,10 @@ pub fn ask<W: Spawner>(
 {
     match child {
         Child::NotStarted => match start(alloc, spawner, command, functions) {
-            Ok(dialogue) => talk(alloc, spawner, dialogue, query),
+            Ok(dialogue) => talk(alloc, spawner, dialogue, query, stays),
             Err((child, trouble)) => (child, Err(trouble)),
         },
-        Child::Talking(dialogue) => talk(alloc, spawner, dialogue, query),
+        Child::Talking(dialogue) => talk(alloc, spawner, dialogue, query, stays),
         Child::Lost => (Child::Lost, Err(Trouble::Fault(Cause::Spent))),
     }
 }

@@ -6,6 +6,8 @@ use Rattle.vx_stack.specs.Stack.{query}
 use Rattle.vx_verifier.specs.Lanes.{IsDue, Records, tried_turn, turns_so_far, is_lost, is_started}
 use Rattle.vx_verifier.proofs.Children.{caused_earlier, fault_is, lost_hears, lost_started, gone_by, faulted_by, match_ok_at, if_ok_at, if_err_at}
 use Rattle.vx_verifier.proofs.Questions.{none_asked, no_turns, hears_none, at_done, at_fault, goes_on, still_running, one_longer, asked_by, started_done, started_fault, due_spelled, alone, faulted_alone}
+use Rattle.vx_machine.specs.Growth.{IsOpen}
+use Rattle.vx_verifier.proofs.Standing.{stays_on}
 use Rattle.vx_report.specs.Reports.{is_resting}
 use Rattle.vx_verifier.proofs.execute.judge.Goals as goal
 
@@ -19,6 +21,7 @@ questions-init g c =
       running = begins.running;
       checks = sym (ap length begins.none);
       few = omega arith;
+      stays = λ q is stays. absurd (begins.stays stays);
       told = λ before turns checks heard. (
         [],
         hears_none g.W.Link.Link.dialogue (map declared_symbol c.args.functions.now) before (g.W.Spawner.ended c.args.spawner.now) c.args.child turns checks (turns_so_far (settled c.args.program.now) c.in-Ok.running.machine)
@@ -37,6 +40,9 @@ questions-init g c =
 pub ask-kept-requires-clause-spelled : goal.ask-kept-requires-clause-spelled
 ask-kept-requires-clause-spelled g c =
     due_spelled (settled c.args.program.now) c.args.member.0 c.questions.running.machine c.questions.running.ask c.in-Check.query c.questions.invariant.running c.in-Check.is c.requires.spelled
+
+pub ask-kept-requires-clause-stays : goal.ask-kept-requires-clause-stays
+ask-kept-requires-clause-stays g c = λ stays. c.questions.invariant.stays c.in-Check.query c.in-Check.is stays
 
 pub returns-in-Done-clause-told : goal.returns-in-Done-clause-told
 returns-in-Done-clause-told g c = λ before turns checks heard.
@@ -97,6 +103,10 @@ questions-preserved g c =
       running = still_running g.W.Link.Link.dialogue [] (settled c.args.program.now) c.args.member.0 [] machine next c.questions.running.ask c.in-Ok-go_on.next.ask so_far.running more.running;
       checks = omega arith;
       few = omega arith;
+      stays = λ q is stays.
+          let stands = if_ok_at c.ask-kept.result.1 _ c.in-Ok-reply.reply c.ask-kept.ensures.stands c.in-Ok-reply.is in
+          let opened = subst (IsOpen machine.phase) c.in-Check.is so_far.running.opened in
+          stays_on machine.phase c.in-Ok-go_on.next.ask c.in-Check.query q _ opened (more.stays stays) is stands;
       told = λ before turns checks heard.
           let told = so_far.told before turns checks heard in
           let hears = if_ok_at c.ask-kept.result.1 _ c.in-Ok-reply.reply c.ask-kept.ensures.told c.in-Ok-reply.is before (turns ++ turns_so_far (settled c.args.program.now) machine) (checks ++ told.0) told.1 in

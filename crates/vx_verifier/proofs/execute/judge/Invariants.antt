@@ -5,7 +5,11 @@ use Rattle.vx_ends.specs.declared.piece.Ending.{Ending}
 use Rattle.vx_smt_meaning.specs.Dialogues.{Check}
 use Rattle.vx_smt_meaning.specs.Views.{declared_symbol}
 use Rattle.vx_dialogue.specs.Turns.{Turn}
-use Rattle.vx_verifier.specs.Lanes.{IsHeld, IsRunning, OthersOwe, links, is_lost, is_started, Hears, Starts, Later, turns_so_far, AreAsked}
+use Rattle.vx_grows.specs.Grows.{Begins}
+use Rattle.vx_stack.specs.declared.question.Query.{Query}
+use Rattle.vx_stack.specs.Stack.{query}
+use Rattle.vx_machine.specs.declared.machine.Ask.TheVariants.{Check as Due}
+use Rattle.vx_verifier.specs.Lanes.{IsHeld, IsRunning, OthersOwe, links, is_lost, is_started, standing_of, Hears, Starts, Later, turns_so_far, AreAsked}
 use Rattle.vx_verifier.specs.Steady.{IsCalmLane}
 use Rattle.vx_verifier.specs.Headline.{has_question}
 use Rattle.vx_verifier.proofs.execute.judge.Given as goal
@@ -22,6 +26,7 @@ invariant-questions g l =
       running : IsRunning (settled l.program) l.fn.member.0 l.running.machine l.running.ask;
       checks : l.checks ≡ length l.running.machine.replies.items;
       few : l.checks ≤ 100000;
+      stays : (q : Query) → l.running.ask ≡ Due q → l.running.machine.stays ≡ true → Begins (standing_of l.child) (query q).path;
       told : (before : List Ending) (turns : List Turn) (checks : List Check) → Hears dialogue (map declared_symbol l.functions) before (w.ended l.fn.spawner) l.fn.child turns checks
           → (own : List Check) × Hears dialogue (map declared_symbol l.functions) before (w.ended l.spawner) l.child (turns ++ turns_so_far (settled l.program) l.running.machine) (checks ++ own) × AreAsked (settled l.program) l.running.machine own;
       lost : is_lost l.child ≡ is_lost l.fn.child;
