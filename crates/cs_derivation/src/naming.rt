@@ -1,40 +1,19 @@
 //! Further terms get their numbers.
-ghost use Rattle.std.specs.Prelude.{◌≡◌, ◌≤◌, [], ◌∷◌, ◌++◌, length, drop, map, IfOk, OnOk, Some};
+ghost use Rattle.std.specs.Prelude.{◌≡◌, [], ◌∷◌, ◌++◌, map, IfOk, OnOk, Some};
 ghost use Rattle.vx_terms.specs.Views.{term};
 ghost use Rattle.cs_certificate.specs.Certificate.{Stack, NewTerm, AreLive};
 ghost use Rattle.cs_numbers.specs.Laws.{IsSorted};
-ghost use Rattle.cs_numbers.specs.Listed.{terms_in};
-ghost use Rattle.cs_numbers.specs.Numbering.{nodes_after};
-ghost use Rattle.cs_table.specs.Gives.{Gives};
-ghost use Rattle.cs_table.specs.Table.{nodes_in};
 ghost use Rattle.cs_proof.specs.Views.{written};
 ghost use Rattle.cs_writable.specs.Writable.{IsWritableTerm};
 
 use crate::Derivation;
-use crate::start::push_nodes;
 use cs_hints::Marks;
-use cs_numbers::{NumberedTerms, add, place_of};
+use cs_numbers::{add, extend, place_of};
 use cs_proof::{Step, Want};
-use cs_table::{Stop, Table};
+use cs_table::Stop;
 use std::alloc::Global;
 use std::rc::Rc;
 use vx_terms::Term;
-
-/// The nodes of the terms that have none yet.
-#[tactic(auto, using(cs_proof::proofs::Walks::terms_drop, cs_proof::proofs::Walks::none_left))]
-fn extend(alloc: Global, all: &mut Table, terms: &NumberedTerms) -> Result<(), Stop>
-    ensures value { Gives (λ u. nodes_in all.new) result (nodes_after (nodes_in all.old) (terms_in terms.now) (drop (length all.old.nodes.items) (terms_in terms.now))) }
-    ensures grown { OnOk result (length all.old.nodes.items ≤ length all.new.nodes.items) }
-{
-    let known = all.nodes.len();
-    if known >= terms.terms.len() {
-        return Ok(());
-    }
-    match push_nodes(alloc, all, terms, &terms.terms[known..]) {
-        Ok(()) => Ok(()),
-        Err(stop) => Err(stop),
-    }
-}
 
 /// A `term` step more.
 fn push_term(steps: &mut Vec<Step>, t: &Rc<Term>) -> Result<(), Stop>

@@ -1,18 +1,18 @@
 //! A derivation with no step.
-ghost use Rattle.std.specs.Prelude.{◌≡◌, ◌<◌, ◌≤◌, ◌^◌, [], ◌++◌, map, length, IfOk, OnOk, Some};
+ghost use Rattle.std.specs.Prelude.{◌≡◌, ◌<◌, ◌^◌, [], ◌++◌, map, length, IfOk, Some};
 ghost use Rattle.vx_terms.specs.Interpretations.{Each};
 ghost use Rattle.vx_terms.specs.Views.{term};
 ghost use Rattle.cs_certificate.specs.Certificate.{Stack};
 ghost use Rattle.cs_certificate.specs.Terms.{parts_of};
 ghost use Rattle.cs_numbers.specs.Laws.{IsSorted};
 ghost use Rattle.cs_numbers.specs.Listed.{terms_in};
-ghost use Rattle.cs_numbers.specs.Numbering.{added, nodes_of, nodes_after, places};
+ghost use Rattle.cs_numbers.specs.Numbering.{added, nodes_of, places};
 ghost use Rattle.cs_table.specs.Gives.{Gives};
 ghost use Rattle.cs_table.specs.Table.{nodes_in};
 
 use crate::Derivation;
 use cs_hints::Marks;
-use cs_numbers::{NumberedTerms, node_of, number, place_of};
+use cs_numbers::{NumberedTerms, extend, number, place_of};
 use cs_proof::Want;
 use cs_table::{Stop, Table};
 use std::alloc::Global;
@@ -30,29 +30,12 @@ fn roots_of(alloc: Global, terms: &NumberedTerms, assertions: &[Rc<Term>]) -> Re
     Ok(roots)
 }
 
-/// The nodes of some terms, behind those that are there.
-pub(crate) fn push_nodes(
-    alloc: Global,
-    all: &mut Table,
-    terms: &NumberedTerms,
-    rest: &[Rc<Term>],
-) -> Result<(), Stop>
-    ensures value { Gives (λ u. nodes_in all.new) result (nodes_after (nodes_in all.old) (terms_in terms.now) (map (λ x. term x.value) rest.now)) }
-    ensures grown { OnOk result (length all.old.nodes.items ≤ length all.new.nodes.items) }
-{
-    for t in rest {
-        let node = node_of(alloc, terms, t)?;
-        all.push(node)?;
-    }
-    Ok(())
-}
-
 /// The nodes of numbered terms.
 fn table_of(alloc: Global, terms: &NumberedTerms) -> Result<Table, Stop>
     ensures { IfOk result (λ t. nodes_of (terms_in terms.now) (terms_in terms.now) ≡ Some (nodes_in t)) }
 {
     let mut nodes = Table::new(alloc)?;
-    push_nodes(alloc, &mut nodes, terms, &terms.terms)?;
+    extend(alloc, &mut nodes, terms)?;
     Ok(nodes)
 }
 

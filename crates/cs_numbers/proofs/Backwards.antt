@@ -4,7 +4,7 @@ use Rattle.std.proofs.lemmas.List.{reverse-append, length-reverse, length-append
 use Rattle.vx_terms.specs.Terms.{Term}
 use Rattle.cs_certificate.specs.Terms.{subterms}
 use Rattle.cs_numbers.specs.Inner.{inner}
-use Rattle.cs_numbers.proofs.Marked.{first_inner}
+use Rattle.cs_numbers.proofs.Kept.{first_inner}
 
 turned_one : (t : Term) → reverse (subterms t) ≡ reverse (inner t) ++ t ∷ []
 turned_one t = ap reverse (first_inner t) ∙ reverse-append (t ∷ []) (inner t)

@@ -7,16 +7,16 @@ use Rattle.cs_numbers.specs.Numbering.{added}
 use Rattle.cs_numbers.specs.Inner.{inner}
 use Rattle.vx_terms.specs.Views.{term}
 use Rattle.cs_numbers.specs.declared.occurrence.Occurrence.{Occurrence}
-use Rattle.cs_numbers.specs.Forest.{seen, IsForest}
+use Rattle.cs_numbers.specs.Forest.{seen, IsForest, IsFirst}
 use Rattle.cs_numbers.proofs.Added.{added_append}
-use Rattle.cs_numbers.proofs.Marked.{first_inner}
+use Rattle.cs_numbers.proofs.Kept.{first_inner}
 
 -- ---- all that stands in a term is what its parts are
 items_parts : (ts : Terms) → all_subterms ts ≡ parts_of (items ts)
 items_parts NoTerms = refl
 items_parts (MoreTerms t ts) = ap (λ us. subterms t ++ us) (items_parts ts)
 
-inner_parts : (t : Term) → inner t ≡ parts_of (parts t)
+pub inner_parts : (t : Term) → inner t ≡ parts_of (parts t)
 inner_parts (Truth b) = refl
 inner_parts (Number z) = refl
 inner_parts (Part a) = refl
@@ -78,22 +78,41 @@ drop_front : {A : Type 0} (xs ys : List A) → drop (length xs) (xs ++ ys) ≡ y
 drop_front [] ys = refl
 drop_front (x ∷ xs) ys = drop_front xs ys
 
--- one turn of a walk from the last one on: n is where the last one's own begin
+-- n is where the last one's own begin, behind those of the others
+begins : (before ts : List Term) (l : Term) (n : ℕ) → before ≡ reverse (parts_of ts) ++ reverse (inner l) → n ≡ length before - length (inner l) → n ≡ length (reverse (parts_of ts))
+begins before ts l n e at =
+    let a : length before ≡ length (reverse (parts_of ts)) + length (reverse (inner l)) = ap length e ∙ length-append (reverse (parts_of ts)) (reverse (inner l)) in
+    let b : length (reverse (inner l)) ≡ length (inner l) = length-reverse (inner l) in
+    omega arith
+
+front_is : (before others ts : List Term) (l : Term) (n : ℕ) → before ≡ reverse (parts_of ts) ++ reverse (inner l) → n ≡ length before - length (inner l) → others ≡ take n before → others ≡ reverse (parts_of ts)
+front_is before others ts l n e at o = o ∙ ap₂ take (begins before ts l n e at) e ∙ take_front (reverse (parts_of ts)) (reverse (inner l))
+
+-- the last one is the first root, and the other roots make the others
+first_root : (us before others : List Term) (l : Term) (n : ℕ) → us ≡ before ++ l ∷ [] → n ≡ length before - length (inner l) → others ≡ take n before → (ts : List Term) → us ≡ reverse (parts_of ts) → IsFirst ts l others
+first_root us before others l n e at o [] is = absurd (no_end before l (sym is ∙ e))
+first_root us before others l n e at o (t ∷ ts) is =
+    let h = last_is before (reverse (parts_of ts) ++ reverse (inner t)) l t (sym e ∙ is ∙ turned t (parts_of ts)) in
+    record {
+      others = ts;
+      first = ap (λ x. x ∷ ts) (sym h.1);
+      is = front_is before others ts l n (h.0 ∙ ap (λ x. reverse (parts_of ts) ++ reverse (inner x)) (sym h.1)) at o;
+    }
+
+pub no_roots : (ts : List Term) → [] ≡ reverse (parts_of ts) → ts ≡ []
+no_roots [] e = refl
+no_roots (t ∷ ts) e = absurd (no_end (reverse (parts_of ts) ++ reverse (inner t)) t (e ∙ turned t (parts_of ts)))
+
+-- one turn of a walk from the last one on
 module _ (us before others within : List Term) (l : Term) (n : ℕ) (e : us ≡ before ++ l ∷ []) (f : IsForest us) (at : n ≡ length before - length (inner l)) (o : others ≡ take n before) (w : within ≡ drop n before) where
   p : Parted before l
   p = parted us before l f e
 
-  n_is : n ≡ length (reverse (parts_of p.others))
-  n_is =
-      let a : length before ≡ length (reverse (parts_of p.others)) + length (reverse (inner l)) = ap length p.is ∙ length-append (reverse (parts_of p.others)) (reverse (inner l)) in
-      let b : length (reverse (inner l)) ≡ length (inner l) = length-reverse (inner l) in
-      omega arith
-
   pub others_are : IsForest others
-  others_are = record { of = p.others; is = o ∙ ap₂ take n_is p.is ∙ take_front (reverse (parts_of p.others)) (reverse (inner l)) }
+  others_are = record { of = p.others; is = front_is before others p.others l n p.is at o }
 
   pub within_are : within ≡ reverse (inner l)
-  within_are = w ∙ ap₂ drop n_is p.is ∙ drop_front (reverse (parts_of p.others)) (reverse (inner l))
+  within_are = w ∙ ap₂ drop (begins before p.others l n p.is at) p.is ∙ drop_front (reverse (parts_of p.others)) (reverse (inner l))
 
   pub one_turn : (terms : List Term) → added terms (reverse us) ≡ added (added terms (subterms l)) (reverse others)
   unfolding p others_are
@@ -128,3 +147,6 @@ module _ (left before others within : List Occurrence) (last : Occurrence) (n : 
 
   pub turn_seen : (terms : List Term) → added terms (reverse (seen left)) ≡ added (added terms (subterms (term last.of.value))) (reverse (seen others))
   turn_seen terms = one_turn (seen left) (seen before) (seen others) (seen within) (term last.of.value) n whole f place front back terms
+
+  pub first_seen : (ts : List Term) → seen left ≡ reverse (parts_of ts) → IsFirst ts (term last.of.value) (seen others)
+  first_seen = first_root (seen left) (seen before) (seen others) (term last.of.value) n whole place front

@@ -4,6 +4,8 @@ pub mod Walks
 pub mod Numbered
 pub mod Tables
 pub mod Looked
-pub mod Marked
+pub mod Kept
 pub mod Forest
 pub mod Backwards
+pub mod Roots
+pub mod Ahead

@@ -2,7 +2,7 @@ pub mod Parts
 pub mod Keys
 pub mod Listed
 pub mod Numbering
-pub mod Marks
+pub mod Kept
 pub mod Inner
 pub mod Forest
 pub mod Laws

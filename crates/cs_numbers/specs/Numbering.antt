@@ -35,8 +35,16 @@ places terms (t ∷ ts) = do
 abbrev pub places_after : List ℕ → List Term → List Term → Option (List ℕ)
 places_after front terms ts = places terms ts >>= λ ns. Some (front ++ ns)
 
+-- the node of a term whose parts have these numbers
+abbrev pub node_with : Term → List ℕ → Node
+node_with t ns = record { head = head t; parts = ns; sort = sort_of t }
+
 abbrev pub node_of : List Term → Term → Option Node
-node_of terms t = places terms (parts t) >>= λ ns. Some record { head = head t; parts = ns; sort = sort_of t }
+node_of terms t = places terms (parts t) >>= λ ns. Some (node_with t ns)
+
+-- the node of the term with a number
+abbrev pub node_at : List Term → ℕ → Option Node
+node_at terms n = slice_get terms n >>= λ t. node_of terms t
 
 abbrev pub nodes_of : List Term → List Term → Option (List Node)
 nodes_of terms [] = Some []

@@ -5,9 +5,9 @@ ghost use Rattle.vx_terms.specs.Terms as spec;
 ghost use Rattle.vx_terms.specs.Views.{term};
 ghost use Rattle.cs_certificate.specs.Terms.{subterms, parts_of};
 ghost use Rattle.cs_numbers.specs.Listed.{terms_in};
-ghost use Rattle.cs_numbers.specs.Forest.{seen, IsForest};
+ghost use Rattle.cs_numbers.specs.Forest.{seen, IsForest, IsFirst};
 ghost use Rattle.cs_numbers.specs.Inner.{inner};
-ghost use Rattle.cs_numbers.specs.Numbering.{with_one, added};
+ghost use Rattle.cs_numbers.specs.Numbering.{place, places, with_one, added};
 
 use crate::NumberedTerms;
 use crate::occurrence::Occurrence;
@@ -30,7 +30,7 @@ fn push(all: &mut NumberedTerms, t: &Occurrence) -> Result<u32, AllocError>
 /// The number of a term; a term that has none yet gets the next one.
 fn add_one(all: &mut NumberedTerms, t: &Occurrence) -> Result<u32, AllocError>
     ensures terms { IfOk result (λ n. terms_in all.new ≡ with_one (terms_in all.old) (term t.now.of.value)) }
-    ensures number { IfOk result (λ n. slice_get (terms_in all.new) n ≡ Some (term t.now.of.value)) }
+    ensures number { IfOk result (λ n. place (terms_in all.new) (term t.now.of.value) ≡ Some n) }
 {
     if let Some(number) = place_under(all, &t.of, t.key) {
         return Ok(number);
@@ -47,6 +47,7 @@ fn parted(left: &[Occurrence]) -> Option<(&Occurrence, &[Occurrence], &[Occurren
     ensures fewer { IfSome result (λ p. length p.2.now < length left.now) }
     ensures within { IfSome result (λ p. seen p.1.now ≡ reverse (inner (term p.0.now.of.value))) }
     ensures others { IfSome result (λ p. IsForest (seen p.2.now)) }
+    ensures first { IfSome result (λ p. (ts : List spec.Term) → seen left.now ≡ reverse (parts_of ts) → IsFirst ts (term p.0.now.of.value) (seen p.2.now)) }
     ensures same { IfSome result (λ p. (terms : List spec.Term) → added terms (reverse (seen left.now)) ≡ added (added terms (subterms (term p.0.now.of.value))) (reverse (seen p.2.now))) }
 {
     let Some((last, before)) = left.split_last() else {
@@ -57,38 +58,42 @@ fn parted(left: &[Occurrence]) -> Option<(&Occurrence, &[Occurrence], &[Occurren
     Some((last, within, others))
 }
 
-/// Numbers a term and what stands in it, where they have no numbers yet.
+/// Numbers a term and what stands in it, where they have no numbers yet, and gives the term's number.
 #[cycle(adding)]
 #[tactic(auto, using(crate::proofs::Forest::forest_within))]
 fn add_with(
     all: &mut NumberedTerms,
     t: &Occurrence,
     within: &[Occurrence],
-) -> Result<(), AllocError>
+) -> Result<u32, AllocError>
     requires { seen within.now ≡ reverse (inner (term t.now.of.value)) }
-    ensures { IfOk result (λ u. terms_in all.new ≡ added (terms_in all.old) (subterms (term t.now.of.value))) }
+    ensures terms { IfOk result (λ n. terms_in all.new ≡ added (terms_in all.old) (subterms (term t.now.of.value))) }
+    ensures number { IfOk result (λ n. place (terms_in all.new) (term t.now.of.value) ≡ Some n) }
 {
     let number = add_one(all, t)?;
-    if all.is_marked(number) {
-        return Ok(());
+    if all.parts_at(number).is_some() {
+        return Ok(number);
     }
-    add_all(all, within)?;
-    all.mark(number);
-    Ok(())
+    let parts = add_all(all, within)?;
+    all.keep(number, parts);
+    Ok(number)
 }
 
-/// Numbers terms from the last one on, where they have no numbers yet.
+/// Numbers terms from the last one on, where they have no numbers yet, and gives the numbers of those that stand in no other one.
 #[cycle(adding)]
-fn add_all(all: &mut NumberedTerms, occurrences: &[Occurrence]) -> Result<(), AllocError>
+fn add_all(all: &mut NumberedTerms, occurrences: &[Occurrence]) -> Result<Vec<u32>, AllocError>
     requires { IsForest (seen occurrences.now) }
-    ensures { IfOk result (λ u. terms_in all.new ≡ added (terms_in all.old) (reverse (seen occurrences.now))) }
+    ensures terms { IfOk result (λ ns. terms_in all.new ≡ added (terms_in all.old) (reverse (seen occurrences.now))) }
+    ensures numbers { IfOk result (λ ns. (ts : List spec.Term) → seen occurrences.now ≡ reverse (parts_of ts) → places (terms_in all.new) ts ≡ Some ns.items) }
 {
+    let mut numbers = Vec::new(all.alloc);
     let mut left = occurrences;
     while let Some((last, within, others)) = parted(left) {
-        add_with(all, last, within)?;
+        let number = add_with(all, last, within)?;
+        numbers.push(number)?;
         left = others;
     }
-    Ok(())
+    Ok(numbers)
 }
 
 /// Numbers a term and its parts, where they have no numbers yet.
@@ -97,7 +102,8 @@ pub fn add(all: &mut NumberedTerms, t: &Rc<Term>) -> Result<(), AllocError>
 {
     let mut occurrences = Vec::new(all.alloc);
     put(&mut occurrences, t)?;
-    add_all(all, &occurrences)
+    add_all(all, &occurrences)?;
+    Ok(())
 }
 
 /// The numbered terms of some assertions, in order.

@@ -5,6 +5,7 @@ ghost use Rattle.cs_numbers.specs.Laws.{Numbers, NumbersMore, Tabulates, InputBy
 ghost use Rattle.cs_numbers.specs.Examples.{Examples};
 
 mod adding;
+mod extending;
 mod key;
 mod occurrence;
 mod occurring;
@@ -13,7 +14,8 @@ mod table;
 mod terms;
 
 pub use adding::{add, number};
-pub use table::{node_of, nodes_of, place_of};
+pub use extending::extend;
+pub use table::{node_at, node_of, nodes_of, place_of};
 pub use terms::NumberedTerms;
 
 /// Numbers are given as certificates number terms.

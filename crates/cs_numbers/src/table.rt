@@ -1,5 +1,5 @@
 //! The nodes of numbered terms.
-ghost use Rattle.std.specs.Prelude.{◌≡◌, ◌++◌, map, IfOk, Some, [], ◌∷◌};
+ghost use Rattle.std.specs.Prelude.{◌≡◌, ◌++◌, map, IfOk, Some, [], ◌∷◌, slice_get};
 ghost use Rattle.vx_terms.specs.Views.{term, terms, sort};
 ghost use Rattle.cs_certificate.specs.Terms.{head, items, parts};
 ghost use Rattle.cs_table.specs.Views as views;
@@ -149,6 +149,26 @@ fn head_of(t: &Term) -> Result<Head, AllocError>
     }
 }
 
+/// The numbers of the parts of the term with this number.
+fn parts_of(alloc: Global, all: &NumberedTerms, number: u32, t: &Term) -> Result<Vec<u32>, Stop>
+    requires { slice_get (terms_in all.now) number ≡ Some (term t.now) }
+    ensures { Gives (λ v. v.items) result (clean.places (terms_in all.now) (parts (term t.now))) }
+{
+    match all.parts_at(number) {
+        Some(numbers) => Ok(numbers.to_vec(alloc)?),
+        None => places(alloc, all, t),
+    }
+}
+
+/// The node of a term whose parts have these numbers.
+fn node_with(t: &Term, parts: Vec<u32>) -> Result<Node, AllocError>
+    ensures { IfOk result (λ n. views.node n ≡ clean.node_with (term t.now) parts.items) }
+{
+    let head = head_of(t)?;
+    let sort = t.sort()?;
+    Ok(Node { head, parts, sort })
+}
+
 /// The node of a term.
 ///
 /// # Errors
@@ -157,9 +177,21 @@ pub fn node_of(alloc: Global, all: &NumberedTerms, t: &Term) -> Result<Node, Sto
     ensures { Gives views.node result (clean.node_of (terms_in all.now) (term t.now)) }
 {
     let parts = places(alloc, all, t)?;
-    let head = head_of(t)?;
-    let sort = t.sort()?;
-    Ok(Node { head, parts, sort })
+    Ok(node_with(t, parts)?)
+}
+
+/// The node of the term with this number. Its parts' numbers are known, so nothing is looked up.
+///
+/// # Errors
+/// `Miss` where no term has the number, or a part of it has none; `Want` where memory runs out.
+pub fn node_at(alloc: Global, all: &NumberedTerms, number: u32) -> Result<Node, Stop>
+    ensures { Gives views.node result (clean.node_at (terms_in all.now) number) }
+{
+    let Some(t) = all.terms.get(number as usize) else {
+        return Err(Stop::Miss);
+    };
+    let parts = parts_of(alloc, all, number, t)?;
+    Ok(node_with(t, parts)?)
 }
 
 /// The nodes of numbered terms.
@@ -170,8 +202,8 @@ pub fn nodes_of(alloc: Global, all: &NumberedTerms) -> Result<Vec<Node>, Stop>
     ensures { Gives (λ v. views.nodes v.items) result (clean.nodes_of (terms_in all.now) (terms_in all.now)) }
 {
     let mut nodes = Vec::new(alloc);
-    for t in &all.terms {
-        nodes.push(node_of(alloc, all, t)?)?;
+    for number in 0..all.terms.len() {
+        nodes.push(node_at(alloc, all, number as u32)?)?;
     }
     Ok(nodes)
 }

@@ -1,9 +1,9 @@
-//! NumberedTerms terms.
-ghost use Rattle.std.specs.Prelude.{◌≡◌, ◌<◌, ◌^◌, ◌++◌, [], ◌∷◌, map, length, true, IfOk, OnOk};
+//! Numbered terms.
+ghost use Rattle.std.specs.Prelude.{◌≡◌, ◌<◌, ◌^◌, ◌++◌, [], ◌∷◌, map, length, IfOk, IfSome, OnOk, Some};
 ghost use Rattle.vx_terms.specs.Views.{term};
 ghost use Rattle.cs_index.specs.Found.{IsIndexed};
 ghost use Rattle.cs_numbers.specs.Keys.{term_key};
-ghost use Rattle.cs_numbers.specs.Marks.{AreMarked, is_whole};
+ghost use Rattle.cs_numbers.specs.Kept.{AreKept, parts_at};
 ghost use Rattle.cs_numbers.specs.Parts.{HasFewParts};
 ghost use Rattle.std.specs.List.{All};
 
@@ -19,17 +19,17 @@ pub struct NumberedTerms {
     pub(crate) alloc: Global,
     pub terms: Vec<Rc<Term>>,
     pub(crate) index: Index,
-    /// By number: whether all that stands in a term is known to have numbers.
-    marks: Vec<bool>,
+    /// By number: the numbers of a term's parts, where all that stands in it is known to have numbers.
+    kept: Vec<Option<Vec<u32>>>,
     ghost small: { length terms.items < 2 ^ 32 },
     ghost few_parts: { All (λ x. HasFewParts (term x.value)) terms.items },
     ghost indexed: { IsIndexed term_key (map (λ x. term x.value) terms.items) index },
-    ghost marked: { AreMarked (map (λ x. term x.value) terms.items) marks.items },
+    ghost parts: { AreKept (map (λ x. term x.value) terms.items) kept.items },
 }
 
 impl NumberedTerms {
     /// No terms.
-    #[tactic(auto, using(cs_index::proofs::Indexed::indexed_none, crate::proofs::Marked::marked_none))]
+    #[tactic(auto, using(cs_index::proofs::Indexed::indexed_none, crate::proofs::Kept::kept_none))]
     pub fn new(alloc: Global) -> Result<NumberedTerms, AllocError>
         ensures { IfOk result (λ n. n.terms.items ≡ []) }
     {
@@ -37,16 +37,16 @@ impl NumberedTerms {
             alloc,
             terms: Vec::new(alloc),
             index: Index::new(alloc),
-            marks: Vec::new(alloc),
+            kept: Vec::new(alloc),
         })
     }
 
-    /// Room for the mark of a further term. Marks behind those of the terms do no harm.
-    #[tactic(auto, using(crate::proofs::Marked::marked_longer))]
+    /// Room for what is kept of a further term. Room behind that of the terms does no harm.
+    #[tactic(auto, using(crate::proofs::Kept::kept_longer))]
     pub(crate) fn make_room(&mut self) -> Result<(), AllocError>
         ensures { self.new.terms.items ≡ self.old.terms.items }
     {
-        self.marks.push(false)?;
+        self.kept.push(None)?;
         Ok(())
     }
 
@@ -77,20 +77,23 @@ impl NumberedTerms {
         }
     }
 
-    /// Whether all that stands in the term of this number is known to have numbers.
-    pub(crate) fn is_marked(&self, number: u32) -> bool
-        ensures { result ≡ true → is_whole (map (λ x. term x.value) self.now.terms.items) number ≡ true }
+    /// The numbers of a term's parts, where all that stands in it is known to have numbers.
+    pub(crate) fn parts_at(&self, number: u32) -> Option<&[u32]>
+        ensures { IfSome result (λ ns. parts_at (map (λ x. term x.value) self.now.terms.items) number ≡ Some ns.now) }
     {
-        self.marks.get(number as usize) == Some(&true)
+        match self.kept.get(number as usize) {
+            Some(Some(parts)) => Some(parts),
+            Some(None) | None => None,
+        }
     }
 
-    /// Marks a term, where all that stands in it has numbers. No memory.
-    pub(crate) fn mark(&mut self, number: u32)
-        requires { is_whole (map (λ x. term x.value) self.old.terms.items) number ≡ true }
+    /// Keeps the numbers of a term's parts, where all that stands in it has numbers. No memory.
+    pub(crate) fn keep(&mut self, number: u32, parts: Vec<u32>)
+        requires { parts_at (map (λ x. term x.value) self.old.terms.items) number ≡ Some parts.items }
         ensures { self.new.terms.items ≡ self.old.terms.items }
     {
-        if let Some(mark) = self.marks.get_mut(number as usize) {
-            *mark = true;
+        if let Some(place) = self.kept.get_mut(number as usize) {
+            *place = Some(parts);
         }
     }
 }

@@ -1,9 +1,6 @@
 -- What was found before, and what the rest gives.
-use Rattle.std.proofs.Common.{◌≡◌, ℕ, zero, suc, ◌-◌, arith, List, [], ◌∷◌, ◌++◌, map, length, take, drop, Option, Some, ◌≤◌, refl, sym, ◌∙◌, ap, append-nil}
-use Rattle.std.proofs.lemmas.List.{drop_all}
+use Rattle.std.proofs.Common.{◌≡◌, ℕ, zero, suc, ◌-◌, arith, List, [], ◌∷◌, ◌++◌, map, length, take, drop, Option, Some, ◌≤◌, refl, sym, ◌∙◌, ap}
 use Rattle.vx_terms.specs.Terms.{Term}
-use Rattle.cs_numbers.specs.Numbering.{nodes_after}
-use Rattle.cs_nodes.specs.Nodes.{Node as Clean}
 use Rattle.std.proofs.lemmas.List.{length-map}
 use Rattle.cs_table.specs.Views.{node, nodes}
 use Rattle.cs_table.specs.declared.node.Node.{Node}
@@ -24,9 +21,6 @@ pub terms_drop : {X : Type 0} (view : X → Term) (n : ℕ) (xs : List X) → dr
 terms_drop view zero xs = refl
 terms_drop view (suc n) [] = refl
 terms_drop view (suc n) (x ∷ xs) = terms_drop view n xs
-
-pub none_left : (front : List Clean) (terms ts : List Term) (n : ℕ) → length ts ≤ n → nodes_after front terms (drop n ts) ≡ Some front
-none_left front terms ts n le = ap (nodes_after front terms) (drop_all n ts le) ∙ ap Some (append-nil front)
 
 take_whole : {X : Type 0} (n : ℕ) (xs : List X) → length xs ≤ n → take n xs ≡ xs
 take_whole zero [] h = refl

@@ -14,13 +14,13 @@ ghost use Rattle.cs_proof.specs.Fits.{stand, seen, Fits};
 ghost use Rattle.cs_proof.specs.Meant.{all_meant};
 ghost use Rattle.cs_proof.specs.Views.{written, duty, IsFit, IsFitClause};
 
-use crate::plans::{Plans, extend, plan_all, roots_of};
+use crate::plans::{Plans, plan_all, roots_of};
 use crate::prepare::Duty;
 use crate::stack::Stack;
 use crate::step::{Step, steps_of};
 use cs_farkas::{Break, Combination, Sums, refutes};
 use cs_hints::{Clause, Marks, refutes_by};
-use cs_numbers::number;
+use cs_numbers::{extend, number};
 use cs_reader::{Certificate, Refusal, SymbolIndex, Symbols};
 use cs_table::{Node, Stop, Table};
 use std::alloc::{AllocError, Global};

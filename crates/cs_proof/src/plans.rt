@@ -1,8 +1,8 @@
 //! What is prepared for all steps, one after another.
-ghost use Rattle.std.specs.Prelude.{◌≡◌, ◌≤◌, length, drop, map, OnOk, Some};
+ghost use Rattle.std.specs.Prelude.{◌≡◌, length, map, OnOk, Some};
 ghost use Rattle.vx_terms.specs.Views.{term};
 ghost use Rattle.cs_reader.specs.Live.{declared_in};
-ghost use Rattle.cs_numbers.specs.Numbering.{nodes_after, places};
+ghost use Rattle.cs_numbers.specs.Numbering.{places};
 ghost use Rattle.cs_numbers.specs.Listed.{terms_in};
 ghost use Rattle.cs_table.specs.Table.{nodes_in};
 ghost use Rattle.cs_table.specs.Gives.{Gives};
@@ -15,7 +15,7 @@ ghost use Rattle.cs_proof.specs.Fits.{stand, Fits};
 use crate::prepare::{Duty, prepared};
 use crate::step::Step;
 use cs_hints::Clause;
-use cs_numbers::{NumberedTerms, add, node_of, place_of};
+use cs_numbers::{NumberedTerms, add, extend, place_of};
 use cs_reader::Symbols;
 use cs_sorts::{is_live, sort_in};
 use cs_table::{Stop, Table};
@@ -45,39 +45,6 @@ pub fn roots_of(
         roots.push(place_of(terms, assertion)?)?;
     }
     Ok(roots)
-}
-
-/// The nodes of some terms, behind those that are there.
-fn push_nodes(
-    alloc: Global,
-    all: &mut Table,
-    terms: &NumberedTerms,
-    rest: &[Rc<Term>],
-) -> Result<(), Stop>
-    ensures value { Gives (λ u. nodes_in all.new) result (nodes_after (nodes_in all.old) (terms_in terms.now) (map (λ x. term x.value) rest.now)) }
-    ensures grown { OnOk result (length all.old.nodes.items ≤ length all.new.nodes.items) }
-{
-    for t in rest {
-        let node = node_of(alloc, terms, t)?;
-        all.push(node)?;
-    }
-    Ok(())
-}
-
-/// The nodes of the terms that have none yet.
-#[tactic(auto, using(crate::proofs::Walks::terms_drop, crate::proofs::Walks::none_left))]
-pub fn extend(alloc: Global, all: &mut Table, terms: &NumberedTerms) -> Result<(), Stop>
-    ensures value { Gives (λ u. nodes_in all.new) result (nodes_after (nodes_in all.old) (terms_in terms.now) (drop (length all.old.nodes.items) (terms_in terms.now))) }
-    ensures grown { OnOk result (length all.old.nodes.items ≤ length all.new.nodes.items) }
-{
-    let known = all.nodes.len();
-    if known >= terms.terms.len() {
-        return Ok(());
-    }
-    match push_nodes(alloc, all, terms, &terms.terms[known..]) {
-        Ok(()) => Ok(()),
-        Err(stop) => Err(stop),
-    }
 }
 
 /// Whether a term is well-sorted over the live symbols.

@@ -1,6 +1,6 @@
 //! Terms by number, and the steps of a certificate as they come.
 
-use cs_numbers::{NumberedTerms, add, node_of, number, place_of};
+use cs_numbers::{NumberedTerms, add, extend, number, place_of};
 use cs_proof::Step;
 use cs_table::{Head, Literal, Node, Stop, Table, equality};
 use std::alloc::{AllocError, Global};
@@ -43,18 +43,6 @@ pub fn written(alloc: Global, literals: &[Literal]) -> Result<Vec<cs_reader::Lit
     Ok(all)
 }
 
-/// The nodes of the terms that have none yet.
-fn extend(alloc: Global, terms: &NumberedTerms, table: &mut Table) -> Result<(), Stop> {
-    let Some(rest) = terms.terms.get(table.nodes.len()..) else {
-        return Ok(());
-    };
-    for term in rest {
-        let node = node_of(alloc, terms, term)?;
-        table.push(node)?;
-    }
-    Ok(())
-}
-
 impl Record {
     /// The terms of the assertions are numbered, and there are no steps.
     ///
@@ -63,7 +51,7 @@ impl Record {
     pub fn new(alloc: Global, assertions: &[Rc<Term>]) -> Result<Record, Stop> {
         let terms = number(alloc, assertions)?;
         let mut table = Table::new(alloc)?;
-        extend(alloc, &terms, &mut table)?;
+        extend(alloc, &mut table, &terms)?;
         Ok(Record {
             terms,
             table,
@@ -195,7 +183,7 @@ impl Record {
         }
         self.steps.push(Step::Term(term.clone()?))?;
         add(&mut self.terms, term)?;
-        extend(alloc, &self.terms, &mut self.table)?;
+        extend(alloc, &mut self.table, &self.terms)?;
         place_of(&self.terms, term)
     }
 

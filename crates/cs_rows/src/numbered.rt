@@ -4,7 +4,7 @@ use crate::names::{operator_text, put_symbol, sort_text};
 use crate::reading::{Written, certificate_of, term_of};
 use crate::told::{put_fraction, put_refusal};
 use cs_hints::Clause;
-use cs_numbers::{NumberedTerms, add, node_of, nodes_of, number, place_of};
+use cs_numbers::{NumberedTerms, add, extend, nodes_of, number, place_of};
 use cs_proof::{Duty, Stack, Step, prepared, step_of};
 use cs_reader::{Certificate, SymbolIndex, Symbols};
 use cs_table::{Head, Node, Stop, Table};
@@ -90,18 +90,6 @@ pub fn put_numbers(
         put_node(text, number, node);
     }
     Ok(true)
-}
-
-// The nodes of the terms that have none yet.
-fn extend(alloc: Global, nodes: &mut Table, terms: &NumberedTerms) -> Result<(), Stop> {
-    let Some(rest) = terms.terms.get(nodes.nodes.len()..) else {
-        return Ok(());
-    };
-    for term in rest {
-        let node = node_of(alloc, terms, term)?;
-        nodes.push(node)?;
-    }
-    Ok(())
 }
 
 // The numbers of the terms of the assertions.

@@ -6,10 +6,10 @@ use Rattle.cs_index.specs.Under.{under, with_number}
 use Rattle.cs_index.specs.Found.{IsIndexed}
 use Rattle.cs_index.proofs.Indexed.{indexed_more}
 use Rattle.cs_numbers.specs.Keys.{term_key}
-use Rattle.cs_numbers.specs.Marks.{AreMarked}
+use Rattle.cs_numbers.specs.Kept.{AreKept}
 use Rattle.cs_numbers.specs.Parts.{HasFewParts}
 use Rattle.cs_numbers.specs.Listed.{terms_in}
-use Rattle.cs_numbers.proofs.Marked.{marked_more}
+use Rattle.cs_numbers.proofs.Kept.{kept_more}
 use Rattle.cs_numbers.proofs.terms.NumberedTerms.push.Goals as goal
 
 pub invariant_of-self-in-Ok-clause-indexed : goal.invariant_of-self-in-Ok-clause-indexed
@@ -29,8 +29,8 @@ invariant_of-self-in-Ok-clause-few_parts c =
     subst (All (λ x. HasFewParts (term x.value))) (sym c.in_ok-push.ensures.items)
     (All-push (λ x. HasFewParts (term x.value)) old.terms.items c.args.t old.few_parts (subst (λ x. HasFewParts (term x)) c.deref.ensures (c.if-not-has_few_parts.ensures refl)))
 
-pub invariant_of-self-in-Ok-clause-marked : goal.invariant_of-self-in-Ok-clause-marked
-invariant_of-self-in-Ok-clause-marked c =
+pub invariant_of-self-in-Ok-clause-parts : goal.invariant_of-self-in-Ok-clause-parts
+invariant_of-self-in-Ok-clause-parts c =
     let old = c.args.self.now in
     let whole : map (λ x. term x.value) c.push.new.self.items ≡ terms_in old ++ term c.args.t.value ∷ [] = ap (map (λ x. term x.value)) c.in_ok-push.ensures.items ∙ map-append (λ x. term x.value) old.terms.items (c.args.t ∷ []) in
-    subst (λ ts. AreMarked ts old.marks.items) (sym whole) (marked_more (terms_in old) (term c.args.t.value ∷ []) old.marks.items old.marked)
+    subst (λ ts. AreKept ts old.kept.items) (sym whole) (kept_more (terms_in old) (term c.args.t.value ∷ []) old.kept.items old.parts)
