@@ -1,5 +1,5 @@
 //! The check: bounds that are broken are mended one by one, by moves and pivots.
-ghost use Rattle.std.specs.Prelude.{◌≡◌, ◌<◌, length, List, All, IfOk, IfErr, OnOk, slice_get, Some, pos};
+ghost use Rattle.std.specs.Prelude.{◌≡◌, ◌<◌, ◌≤◌, length, List, All, IfOk, IfErr, OnOk, slice_get, Some, pos};
 ghost use Rattle.vx_frac.specs.Fraction.{fraction};
 ghost use Rattle.cs_linear.specs.Numbers.{times, IsCause};
 ghost use Rattle.cs_linear.specs.Values.{values};
@@ -11,7 +11,7 @@ ghost use Rattle.cs_linear.specs.Checks as clean;
 use crate::bounds::{Bound, Part, Side, Value};
 use crate::limits::Limits;
 use crate::numbers::{Stop, minus_one, one, times, zero};
-use crate::rows::Entry;
+use crate::rows::{Entry, Row};
 use std::alloc::Global;
 use vx_frac::Frac;
 
@@ -102,7 +102,7 @@ fn meet(
 }
 
 /// The first entry whose column can move, or the bounds that block all.
-pub fn examine(
+fn examine(
     alloc: Global,
     entries: &[Entry],
     toward: Frac,
@@ -124,6 +124,103 @@ pub fn examine(
         }
     }
     Ok(Way::Stuck(parts))
+}
+
+/// Whether a sum has the column.
+fn has_column(entries: &[Entry], column: u32) -> bool {
+    for entry in entries {
+        if entry.column >= column {
+            return entry.column == column;
+        }
+    }
+    false
+}
+
+/// How many rows have the column.
+fn count_rows(rows: &[Row], column: u32) -> usize
+    ensures { result ≤ length rows.now }
+{
+    let mut count = 0;
+    for row in rows {
+        if has_column(&row.entries, column) {
+            count += 1;
+        }
+    }
+    count
+}
+
+/// Of so many entries whose columns can move the best is looked for.
+const CANDIDATES: usize = 4;
+
+/// Of the first few entries whose columns can move the one that the fewest rows have: so many are rewritten when it changes places. Where there
+/// is none, the one that is given.
+fn lightest(
+    rows: &[Row],
+    entries: &[Entry],
+    toward: Frac,
+    limits: &Limits,
+    mains: &[Frac],
+    deltas: &[Frac],
+    first: Entry,
+) -> Result<Entry, Stop>
+    requires lower { All (λ e. e.column < length limits.now.lower.items) entries.now }
+    requires upper { All (λ e. e.column < length limits.now.upper.items) entries.now }
+    requires mains { All (λ e. e.column < length mains.now) entries.now }
+    requires deltas { All (λ e. e.column < length deltas.now) entries.now }
+    requires first { (bounds : List Bound) → AreLimits bounds limits.now → IsWay bounds (values mains.now) (values deltas.now) (fraction toward) entries.now (Way.Moves first) }
+    ensures value { IfOk result (λ e. (bounds : List Bound) → AreLimits bounds limits.now → IsWay bounds (values mains.now) (values deltas.now) (fraction toward) entries.now (Way.Moves e)) }
+    ensures cause { IfErr result IsCause }
+{
+    let mut best = first;
+    let mut fewest = count_rows(rows, first.column);
+    let mut left = CANDIDATES;
+    for entry in entries {
+        if left == 0 {
+            return Ok(best);
+        }
+        match judge(*entry, toward, limits, mains, deltas)? {
+            Judged::Moves => {
+                left -= 1;
+                let count = count_rows(rows, entry.column);
+                if count < fewest {
+                    best = *entry;
+                    fewest = count;
+                }
+            }
+            Judged::Idle | Judged::Blocked(_) => {}
+        }
+    }
+    Ok(best)
+}
+
+/// An entry whose column can move, or the bounds that block all: the first one, or where the choice is free one that few rows have.
+pub fn find_way(
+    alloc: Global,
+    rows: &[Row],
+    entries: &[Entry],
+    toward: Frac,
+    limits: &Limits,
+    mains: &[Frac],
+    deltas: &[Frac],
+    freely: bool,
+) -> Result<Way, Stop>
+    requires lower { All (λ e. e.column < length limits.now.lower.items) entries.now }
+    requires upper { All (λ e. e.column < length limits.now.upper.items) entries.now }
+    requires mains { All (λ e. e.column < length mains.now) entries.now }
+    requires deltas { All (λ e. e.column < length deltas.now) entries.now }
+    ensures value { IfOk result (λ w. (bounds : List Bound) → AreLimits bounds limits.now → IsWay bounds (values mains.now) (values deltas.now) (fraction toward) entries.now w) }
+    ensures cause { IfErr result IsCause }
+{
+    match examine(alloc, entries, toward, limits, mains, deltas)? {
+        Way::Moves(first) => {
+            if !freely {
+                return Ok(Way::Moves(first));
+            }
+            let entry = lightest(rows, entries, toward, limits, mains, deltas, first)?;
+            Ok(Way::Moves(entry))
+        }
+        Way::Stuck(parts) => Ok(Way::Stuck(parts)),
+    }
 }
 
 /// The multiplier of a broken bound.

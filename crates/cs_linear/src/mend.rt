@@ -12,7 +12,7 @@ ghost use Rattle.cs_linear.specs.Views.{width_of, rows_of, bounds_of};
 ghost use Rattle.cs_linear.specs.Results.{IsChecked, IsUndecided, IsStep, IsEntryOf};
 
 use crate::bounds::{Bound, Part, Value};
-use crate::check::{Way, examine, own, toward};
+use crate::check::{Way, find_way, own, toward};
 use crate::limits::Limits;
 use crate::numbers::{Stop, reciprocal, times};
 use crate::rows::Entry;
@@ -136,6 +136,7 @@ impl Tableau {
         limits: &Limits,
         at: usize,
         marks: &mut Vec<bool>,
+        freely: bool,
     ) -> Result<Option<Conflict>, Stop>
         requires home { slice_get self.old.homes.items bound.column ≡ Some (Some at) }
         requires among { IsAmong bound self.old.bounds.items }
@@ -152,13 +153,15 @@ impl Tableau {
         ensures cause { IfErr result IsCause }
     {
         let toward = toward(bound.side);
-        match examine(
+        match find_way(
             alloc,
+            &self.rows,
             &self.rows[at].entries,
             toward,
             limits,
             &self.mains,
             &self.deltas,
+            freely,
         )? {
             Way::Moves(entry) => {
                 self.exchange(alloc, bound, at, entry, marks)?;
@@ -182,6 +185,7 @@ impl Tableau {
         bound: Bound,
         limits: &Limits,
         marks: &mut Vec<bool>,
+        freely: bool,
     ) -> Result<Option<Conflict>, Stop>
         requires known { bound.column < length self.old.homes.items }
         requires among { IsAmong bound self.old.bounds.items }
@@ -202,7 +206,7 @@ impl Tableau {
                 self.move_to(alloc, bound, marks)?;
                 Ok(None)
             }
-            Some(at) => self.mend_basic(alloc, bound, limits, at, marks),
+            Some(at) => self.mend_basic(alloc, bound, limits, at, marks, freely),
         }
     }
 
@@ -213,6 +217,7 @@ impl Tableau {
         meter: &mut Meter,
         limits: &Limits,
         marks: &mut Vec<bool>,
+        freely: bool,
     ) -> Result<Step, Undecided>
         requires limits { AreLimits self.old.bounds.items limits.now }
         requires tight { AreTight self.old.bounds.items limits.now }
@@ -236,7 +241,7 @@ impl Tableau {
                     Ok(()) => {}
                     Err(Budget) => return Err(Undecided::Budget),
                 }
-                match self.mend(alloc, bound, limits, marks) {
+                match self.mend(alloc, bound, limits, marks, freely) {
                     Ok(None) => Ok(Step::On),
                     Ok(Some(conflict)) => Ok(Step::Ended(Checked::Conflict(conflict))),
                     Err(stop) => Err(cause_of(stop)),
@@ -267,8 +272,12 @@ impl Tableau {
             Ok(marks) => marks,
             Err(stop) => return Err(cause_of(stop)),
         };
+        // The first turns choose what is cheap; the others the first that can move, so that they come to an end.
+        let free_turns = self.homes.len();
+        let start = meter.spent();
         loop {
-            match self.turn(alloc, meter, &limits, &mut marks)? {
+            let freely = ((meter.spent() - start) as usize) < free_turns;
+            match self.turn(alloc, meter, &limits, &mut marks, freely)? {
                 Step::Ended(checked) => return Ok(checked),
                 Step::On => {}
             }
