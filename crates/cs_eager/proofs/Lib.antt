@@ -4,3 +4,4 @@ pub mod Replayed
 pub mod Learned
 pub mod Solved
 pub mod Begun
+mod Unset

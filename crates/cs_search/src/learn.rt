@@ -77,11 +77,21 @@ pub fn cut_for(made: &Assignment, literals: &[Literal], clauses: &[Clause]) -> u
     }
 }
 
-/// Adds a clause at the end.
-fn keep(clauses: &mut Vec<Clause>, clause: Clause) -> Result<(), AllocError>
-    ensures { OnOk result (clauses.new.items ≡ clauses.old.items ++ clause ∷ []) }
+/// Adds a clause that is false under the assignment, and takes the assignment back until it forces a literal.
+///
+/// # Errors
+/// `AllocError` where memory runs out.
+pub fn teach(search: &mut Search, clause: Clause) -> Result<(), AllocError>
+    requires sound { IsReady search.old }
+    requires all_false { IsFalse search.old.made.values.items (length search.old.made.trail.items) clause.literals.items }
+    ensures sound { OnOk result (IsReady search.new) }
+    ensures clauses { OnOk result (search.new.clauses.items ≡ search.old.clauses.items ++ clause ∷ []) }
+    ensures forces { OnOk result ((clause.literals.items ≡ []) ⊎ ((forced : Literal) × Forces search.new.made.values.items (length search.new.made.trail.items) clause.literals.items forced)) }
+    ensures width { OnOk result (length search.new.made.values.items ≡ length search.old.made.values.items) }
 {
-    clauses.push(clause)?;
+    let cut = cut_for(&search.made, &clause.literals, &search.clauses);
+    back_to(search, cut);
+    search.clauses.push(clause)?;
     Ok(())
 }
 
@@ -103,9 +113,7 @@ pub fn learn(search: &mut Search, clause: Clause, meter: &mut Meter) -> Result<(
     if !spend(meter) {
         return Err(Undecided::Budget);
     }
-    let cut = cut_for(&search.made, &clause.literals, &search.clauses);
-    back_to(search, cut);
-    match keep(&mut search.clauses, clause) {
+    match teach(search, clause) {
         Err(e) => Err(Undecided::Want(e)),
         Ok(()) => Ok(()),
     }

@@ -18,10 +18,14 @@ pub struct Order {
     pub scores: Vec<u64>,
     /// By atoms.
     pub signs: Vec<bool>,
-    /// The atoms that have a score.
+    /// By atoms: how many had a score before it got its first one.
+    pub ranks: Vec<usize>,
+    /// The atoms that have a score, the highest one first; of equal ones the atom that had a score earlier.
     pub active: Vec<u32>,
     /// What a conflict adds now.
     pub step: u64,
+    /// Each active atom before this place has a value.
+    pub first: usize,
     /// Each atom below has a value.
     pub next: usize,
 }
@@ -32,8 +36,10 @@ impl Order {
         Order {
             scores: Vec::new(alloc),
             signs: Vec::new(alloc),
+            ranks: Vec::new(alloc),
             active: Vec::new(alloc),
             step: STEP,
+            first: 0,
             next: 0,
         }
     }
@@ -52,6 +58,7 @@ impl Order {
         if atom < self.signs.len() {
             self.signs[atom] = literal.positive;
         }
+        self.first = 0;
         self.next = self.next.min(atom);
     }
 
@@ -75,6 +82,47 @@ impl Order {
         for _ in self.scores.len()..=atom as usize {
             self.scores.push(0)?;
         }
+        for _ in self.ranks.len()..=atom as usize {
+            self.ranks.push(0)?;
+        }
+        Ok(())
+    }
+
+    /// Whether the first atom is to be chosen before the second one.
+    fn is_before(&self, first: u32, second: u32) -> bool {
+        let score = self.score(first);
+        let other = self.score(second);
+        score > other || (score == other && self.rank(first) < self.rank(second))
+    }
+
+    /// Moves the active atom at this place forward to where it belongs.
+    fn lift(&mut self, place: usize) {
+        let mut at = place;
+        while at > 0 && at < self.active.len() {
+            if !self.is_before(self.active[at], self.active[at - 1]) {
+                return;
+            }
+            self.active.swap(at - 1, at);
+            at -= 1;
+        }
+    }
+
+    /// Where an active atom stands.
+    fn place(&self, atom: u32) -> Option<usize> {
+        for i in 0..self.active.len() {
+            if self.active[i] == atom {
+                return Some(i);
+            }
+        }
+        None
+    }
+
+    /// An atom gets its first score.
+    fn activate(&mut self, atom: u32) -> Result<(), AllocError> {
+        if (atom as usize) < self.ranks.len() {
+            self.ranks[atom as usize] = self.active.len();
+        }
+        self.active.push(atom)?;
         Ok(())
     }
 
@@ -83,9 +131,12 @@ impl Order {
         self.reach_score(atom)?;
         let score = self.score(atom);
         if score == 0 {
-            self.active.push(atom)?;
+            self.activate(atom)?;
         }
         self.write(atom, score.saturating_add(self.step));
+        if let Some(place) = self.place(atom) {
+            self.lift(place);
+        }
         Ok(())
     }
 
@@ -105,6 +156,9 @@ impl Order {
             }
         }
         self.step = (self.step >> 32).max(STEP);
+        for at in 0..self.active.len() {
+            self.lift(at);
+        }
     }
 
     /// Later conflicts count more.
@@ -117,6 +171,7 @@ impl Order {
 
     /// Counts a conflict for the atoms of these literals.
     pub fn count(&mut self, literals: &[Literal]) -> Result<(), AllocError> {
+        self.first = 0;
         for literal in literals {
             self.bump(literal.number)?;
         }
@@ -132,30 +187,27 @@ impl Order {
         }
     }
 
-    /// The atom, if it has no value and a higher score than the best so far; else that one.
-    fn better(&self, values: &[Value], best: Option<u32>, atom: u32) -> Option<u32>
-        ensures { IfSome best (λ b. slice_get values.now b ≡ Some Value.Unset) → IfSome result (λ b. slice_get values.now b ≡ Some Value.Unset) }
-    {
-        if let Some(other) = best {
-            if self.score(atom) <= self.score(other) {
-                return best;
-            }
+    /// How many atoms had a score before this one.
+    fn rank(&self, atom: u32) -> usize {
+        match self.ranks.get(atom as usize) {
+            Some(rank) => *rank,
+            None => 0,
         }
-        if is_unset(values, atom) {
-            return Some(atom);
-        }
-        best
     }
 
     /// Of the atoms that have a score and no value, the one with the highest score.
-    pub fn best(&self, values: &[Value]) -> Option<u32>
+    pub fn best(&mut self, values: &[Value]) -> Option<u32>
         ensures { IfSome result (λ atom. slice_get values.now atom ≡ Some Value.Unset) }
     {
-        let mut best = None;
-        for atom in &self.active {
-            best = self.better(values, best, *atom);
+        for place in self.first..self.active.len() {
+            let atom = self.active[place];
+            if is_unset(values, atom) {
+                self.first = place;
+                return Some(atom);
+            }
         }
-        best
+        self.first = self.active.len();
+        None
     }
 }
 
