@@ -2,6 +2,7 @@
 //! or give.
 
 use crate::held::Held;
+use crate::numbers::Numbers;
 use cs_proof::Step;
 use cs_record::atoms::Atoms;
 use cs_record::numbered::Record;
@@ -9,7 +10,6 @@ use cs_search::examine::same;
 use cs_search::{Entry, Literal, Value};
 use cs_table::{Head, Node, Stop, equality};
 use std::alloc::Global;
-use std::collections::HashSet;
 
 /// What is claimed.
 #[derive(Clone, Copy)]
@@ -61,6 +61,13 @@ impl Truths {
     }
 }
 
+/// A literal of which all is claimed, and how many claims stood before it.
+#[derive(Clone, Copy)]
+struct Followed {
+    literal: Literal,
+    before: usize,
+}
+
 /// Whether the claim is that two terms are equal.
 fn is_equal(claim: Claim) -> bool {
     match claim {
@@ -75,14 +82,14 @@ fn is_equal(claim: Claim) -> bool {
 pub struct Claims {
     pub held: Held,
     // the equalities that are atoms, and are numbered before their other orders; and those that came later
-    equalities: HashSet<u32>,
+    equalities: Numbers,
     // the Bool terms under symbols, and the Bool applications of symbols
-    bools: HashSet<u32>,
+    bools: Numbers,
     // these, if there are such Bool terms
     pub truths: Option<Truths>,
     made: Vec<Claim>,
-    // the literals of which all is claimed, in the order in which they became true
-    followed: Vec<Literal>,
+    // in the order in which the literals became true
+    followed: Vec<Followed>,
 }
 
 /// An atom's value.
@@ -110,14 +117,6 @@ fn equalities_of(alloc: Global, record: &Record, atoms: &Atoms) -> Result<Vec<u3
         }
     }
     Ok(found)
-}
-
-fn set_of(alloc: Global, numbers: &[u32]) -> Result<HashSet<u32>, Stop> {
-    let mut set = HashSet::new(alloc);
-    for number in numbers {
-        set.insert(*number)?;
-    }
-    Ok(set)
 }
 
 fn mark(marks: &mut [bool], number: u32) {
@@ -174,33 +173,40 @@ fn truths_of(alloc: Global, record: &mut Record, bools: &[u32]) -> Result<Option
 }
 
 impl Claims {
-    /// Nothing is claimed of the terms of a record.
+    /// Nothing is claimed of the terms of a record, but that `true` isn't `false`.
     ///
     /// # Errors
     /// `Want` where memory runs out.
     pub fn new(alloc: Global, record: &mut Record, atoms: &Atoms) -> Result<Claims, Stop> {
-        let equalities = set_of(alloc, &equalities_of(alloc, record, atoms)?)?;
+        let equalities = Numbers::of(alloc, &equalities_of(alloc, record, atoms)?)?;
         let bools = bools_of(alloc, record)?;
         let truths = truths_of(alloc, record, &bools)?;
         let held = Held::new(alloc, &record.table)?;
-        Ok(Claims {
+        let mut claims = Claims {
             held,
             equalities,
-            bools: set_of(alloc, &bools)?,
+            bools: Numbers::of(alloc, &bools)?,
             truths,
             made: Vec::new(alloc),
             followed: Vec::new(alloc),
-        })
+        };
+        if claims.truths.is_some() {
+            claims.put(alloc, record, Claim::Truths)?;
+        }
+        Ok(claims)
     }
 
     /// Claims the equality of this number too, if it is one of terms that the classes know, and isn't claimed yet.
     ///
     /// # Errors
     /// `Miss` where no term has the number; `Want` where memory runs out.
-    pub fn add(&mut self, record: &Record, number: u32) -> Result<(), Stop> {
-        if let Some((a, b)) = record.sides(number)? {
-            if self.held.has(a) && self.held.has(b) {
-                self.equalities.insert(number)?;
+    pub fn add(&mut self, record: &Record, atoms: &Atoms, number: u32) -> Result<(), Stop> {
+        let Some((a, b)) = record.sides(number)? else {
+            return Ok(());
+        };
+        if self.held.has(a) && self.held.has(b) && self.equalities.insert(number)? {
+            if let Some(atom) = atoms.find(number) {
+                self.forget(atom);
             }
         }
         Ok(())
@@ -224,10 +230,10 @@ impl Claims {
 
     /// What a literal claims, if it is one of an equality, or of a Bool term that symbols take or give.
     fn claimed_by(&self, number: u32, holds: bool) -> Option<Claim> {
-        if self.equalities.contains(&number) {
+        if self.equalities.contains(number) {
             return Some(Claim::Equality(number, holds));
         }
-        if self.bools.contains(&number) {
+        if self.bools.contains(number) {
             return Some(Claim::Value(number, holds));
         }
         None
@@ -241,25 +247,41 @@ impl Claims {
         Ok(())
     }
 
-    /// Whether the trail begins with the literals of which all is claimed.
-    fn leads_on(&self, trail: &[Entry]) -> bool {
-        self.followed.len() <= trail.len()
-            && self
-                .followed
-                .iter()
-                .zip(trail)
-                .all(|(old, entry)| same(*old, entry.literal))
+    /// How many of the literals of which all is claimed the trail begins with.
+    fn common(&self, trail: &[Entry]) -> usize {
+        for (at, old) in self.followed.iter().enumerate() {
+            match trail.get(at) {
+                Some(entry) if same(old.literal, entry.literal) => {}
+                _ => return at,
+            }
+        }
+        self.followed.len()
     }
 
-    /// Takes back all claims but the one that is made of no literal.
-    fn begin(&mut self, alloc: Global, record: &Record) -> Result<(), Stop> {
-        self.held.forget();
-        self.made.clear();
-        self.followed.clear();
-        if self.truths.is_some() {
-            self.put(alloc, record, Claim::Truths)?;
+    /// Takes back what is claimed by the literal of an atom, and by those behind.
+    fn forget(&mut self, atom: u32) {
+        for at in 0..self.followed.len() {
+            if self.followed[at].literal.number == atom {
+                self.back_to(at);
+                return;
+            }
         }
-        Ok(())
+    }
+
+    /// Takes back what is claimed by the literals that the trail doesn't begin with. No memory.
+    pub fn keep(&mut self, trail: &[Entry]) {
+        let count = self.common(trail);
+        self.back_to(count);
+    }
+
+    /// Takes back what is claimed by all literals but the first of them.
+    fn back_to(&mut self, count: usize) {
+        if let Some(followed) = self.followed.get(count) {
+            let before = followed.before;
+            self.held.back_to(before);
+            self.made.truncate(before);
+            self.followed.truncate(count);
+        }
     }
 
     /// Claims what one literal more claims.
@@ -270,16 +292,16 @@ impl Claims {
         atoms: &Atoms,
         literal: Literal,
     ) -> Result<(), Stop> {
-        for term in atoms.terms(alloc, &[literal])? {
-            if let Some(claim) = self.claimed_by(term.number, term.positive) {
-                self.put(alloc, record, claim)?;
-            }
+        let before = self.made.len();
+        let term = atoms.term(literal)?;
+        if let Some(claim) = self.claimed_by(term.number, term.positive) {
+            self.put(alloc, record, claim)?;
         }
-        self.followed.push(literal)?;
+        self.followed.push(Followed { literal, before })?;
         Ok(())
     }
 
-    /// Claims what the literals of a trail claim, and nothing else. Where the trail has only grown since, so do the claims.
+    /// Claims what the literals claim that the trail has got since.
     ///
     /// # Errors
     /// `Want` where memory runs out.
@@ -290,9 +312,6 @@ impl Claims {
         atoms: &Atoms,
         trail: &[Entry],
     ) -> Result<(), Stop> {
-        if self.made.is_empty() || !self.leads_on(trail) {
-            self.begin(alloc, record)?;
-        }
         let rest = trail.get(self.followed.len()..).unwrap_or(&[]);
         for entry in rest {
             self.follow_one(alloc, record, atoms, entry.literal)?;
@@ -305,7 +324,7 @@ impl Claims {
     /// # Errors
     /// `Miss` where a side isn't known.
     pub fn is_joined(&self, record: &Record, number: u32) -> Result<bool, Stop> {
-        if !self.equalities.contains(&number) {
+        if !self.equalities.contains(number) {
             return Ok(false);
         }
         let (a, b) = self.ends(record, Claim::Equality(number, true))?;

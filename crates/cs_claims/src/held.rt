@@ -153,9 +153,9 @@ impl Held {
         (number as usize) < self.count
     }
 
-    /// Takes back all claims. No memory.
-    pub fn forget(&mut self) {
-        self.classes.back_to(0);
+    /// Takes back all claims but the first of them. No memory.
+    pub fn back_to(&mut self, mark: usize) {
+        self.classes.back_to(mark);
     }
 
     /// Claims that two terms are equal, or that they aren't.

@@ -6,4 +6,5 @@ pub mod claims;
 pub mod farkas;
 pub mod held;
 pub mod lemma;
+mod numbers;
 pub mod shortcuts;

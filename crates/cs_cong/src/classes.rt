@@ -232,7 +232,6 @@ impl Classes {
 
     /// Takes back all claims but the first of them. No memory.
     pub fn back_to(&mut self, mark: usize)
-        requires { mark ≤ length self.old.claims.items }
         ensures terms { self.new.terms.items ≡ self.old.terms.items }
         ensures claims { self.new.claims.items ≡ take mark self.old.claims.items }
     {

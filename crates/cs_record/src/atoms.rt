@@ -74,6 +74,20 @@ impl Atoms {
         Ok(found)
     }
 
+    /// The literal of an atom, as a literal of its term.
+    ///
+    /// # Errors
+    /// `Miss` at a number that isn't an atom's.
+    pub fn term(&self, of: Literal) -> Result<cs_table::Literal, Stop> {
+        match self.terms.get(of.number as usize) {
+            Some(term) => Ok(cs_table::Literal {
+                positive: of.positive,
+                number: *term,
+            }),
+            None => Err(Stop::Miss),
+        }
+    }
+
     /// The literals of atoms, as literals of their terms.
     ///
     /// # Errors
@@ -81,13 +95,7 @@ impl Atoms {
     pub fn terms(&self, alloc: Global, of: &[Literal]) -> Result<Vec<cs_table::Literal>, Stop> {
         let mut found = Vec::new(alloc);
         for literal in of {
-            let Some(term) = self.terms.get(literal.number as usize) else {
-                return Err(Stop::Miss);
-            };
-            found.push(cs_table::Literal {
-                positive: literal.positive,
-                number: *term,
-            })?;
+            found.push(self.term(*literal)?)?;
         }
         Ok(found)
     }
