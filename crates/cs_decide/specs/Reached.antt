@@ -3,8 +3,8 @@ use Rattle.std.specs.Prelude.{⊤, length}
 use Rattle.cs_search.specs.declared.search.Search.{Search}
 use Rattle.cs_search.specs.Extended.{IsConflict}
 use Rattle.cs_search.specs.Search.{AreSatisfied}
-use Rattle.cs_decide.specs.declared.check.Reached.{Reached}
-use Rattle.cs_decide.specs.declared.check.Reached.TheVariants as reached
+use Rattle.cs_decide.specs.declared.turns.Reached.{Reached}
+use Rattle.cs_decide.specs.declared.turns.Reached.TheVariants as reached
 
 -- a false clause, or each clause is satisfied
 abbrev pub IsReached : Search → Reached → Type 0

@@ -11,8 +11,8 @@ ghost use Rattle.cs_answer.specs.Few.{IsFew, IsDecided};
 ghost use Rattle.cs_opposites.specs.Opposites.{HasOpposites};
 ghost use Rattle.cs_decide.specs.Refuted.{IsRefuted};
 
-use crate::check::decided;
 use crate::settled::settled;
+use crate::turns::decided;
 use cs_answer::{Answer, Cause, stopped};
 use cs_meter::{Budget, Meter};
 use cs_opposites::{opposed, opposites_refute};

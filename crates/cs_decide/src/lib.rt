@@ -4,14 +4,18 @@
 #![tactic(auto)]
 
 mod attempts;
+mod cases;
 mod check;
 mod clashes;
 mod elements;
 mod figures;
 mod forced;
+mod lemmas;
 mod misread;
 mod model;
 mod products;
 mod settled;
+mod signs;
+mod turns;
 
 pub use attempts::decide;

@@ -1,7 +1,7 @@
 use Rattle.std.proofs.Common.{ℕ, Option, IfNone, length, subst, sym}
 use Rattle.cs_search.specs.declared.search.Search.{Search}
 use Rattle.cs_search.specs.Extended.{AreClosed}
-use Rattle.cs_decide.proofs.check.descend.Goals as goal
+use Rattle.cs_decide.proofs.turns.descend.Goals as goal
 
 abbrev IsClosed : Search → Type 0
 IsClosed s = AreClosed s.clauses.items s.made.values.items (length s.made.trail.items) (length s.clauses.items)

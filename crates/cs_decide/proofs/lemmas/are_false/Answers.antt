@@ -3,7 +3,7 @@ use Rattle.std.proofs.lemmas.List.{take_all}
 use Rattle.std.proofs.lemmas.List.Elements.{All-more}
 use Rattle.cs_hints.specs.declared.Literal.{Literal}
 use Rattle.cs_search.specs.Assignment.{FalseBefore, IsFalse}
-use Rattle.cs_decide.proofs.check.are_false.Goals as goal
+use Rattle.cs_decide.proofs.lemmas.are_false.Goals as goal
 
 pub loop-literal-preserved : goal.loop-literal-preserved
 loop-literal-preserved c =

@@ -1,7 +1,7 @@
 use Rattle.std.proofs.Common.{◌-◌, ◌≤◌}
 use Rattle.cs_meter.specs.Units.{limit}
 use Rattle.cs_search.specs.Search.{IsReady}
-use Rattle.cs_decide.proofs.check.run.Given as goal
+use Rattle.cs_decide.proofs.turns.run.Given as goal
 
 abbrev pub invariant-loop-answer : goal.invariant-loop-answer
 invariant-loop-answer l = IsReady l.search × (l.initial.meter.spent ≤ l.meter.spent)

@@ -6,8 +6,8 @@ use Rattle.cs_hints.specs.declared.Clause.{Clause}
 use Rattle.cs_search.specs.declared.Value.{Value}
 use Rattle.cs_search.specs.Search.{AreSatisfied, IsUncovered}
 use Rattle.cs_decide.specs.New.{IsUntrue, AreUntrue}
-use Rattle.cs_decide.proofs.check.take_cases.Goals.{in-Some+in_ok-prefer, in_default}
-use Rattle.cs_decide.proofs.check.take_cases.Goals as goal
+use Rattle.cs_decide.proofs.cases.take_cases.Goals.{in-Some+in_ok-prefer, in_default}
+use Rattle.cs_decide.proofs.cases.take_cases.Goals as goal
 
 -- where each clause is satisfied, one of which no literal is true contains none of them
 untrue_uncovered : (clauses : List Clause) (values : List Value) (ls : List Literal) → AreSatisfied clauses values → AreUntrue values ls → IsUncovered clauses ls

@@ -4,7 +4,7 @@ use Rattle.std.proofs.lemmas.List.Elements.{All-more}
 use Rattle.cs_hints.specs.declared.Literal.{Literal}
 use Rattle.cs_search.specs.Assignment.{status_of}
 use Rattle.cs_decide.specs.New.{IsUntrue, AreUntrue}
-use Rattle.cs_decide.proofs.check.are_untrue.Goals as goal
+use Rattle.cs_decide.proofs.cases.are_untrue.Goals as goal
 
 pub loop-literal-preserved : goal.loop-literal-preserved
 loop-literal-preserved c =

@@ -1,7 +1,7 @@
 use Rattle.std.proofs.Common.{List, length, subst}
 use Rattle.cs_hints.specs.declared.Literal.{Literal}
 use Rattle.cs_search.specs.Assignment.{IsFalse}
-use Rattle.cs_decide.proofs.check.take_lemma.Goals as goal
+use Rattle.cs_decide.proofs.lemmas.take_lemma.Goals as goal
 
 pub learn-requires-clause-all_false : goal.learn-requires-clause-all_false
 learn-requires-clause-all_false c =
