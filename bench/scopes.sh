@@ -1,7 +1,7 @@
 #!/usr/bin/env bash
 # What one long method costs, whose questions share their path: asserts in a row, each with a fact more, and asserts behind five forks in
 # a row. By z3 and, up to 400 asserts, by cvc5, where they are there: what `vsil` takes with the solver, and what the solver takes alone on the script that it was
-# sent; the bytes and assertions of the script; the peak of `vsil`'s own memory with z3, and with a child that answers `unsat` at once.
+# sent; the bytes and assertions of the script; and what `vsil` itself takes, with each of them and with a child that answers `unsat` at once.
 # Words: the sizes (100, 400 and 1600 asserts in a row).
 set -eu
 . "$(dirname "${BASH_SOURCE[0]}")/timing.sh"
@@ -42,18 +42,8 @@ recorded() {
     chmod +x "$folder/recorded"
 }
 
-# own SOLVER: prints the peak of the memory of `vsil` alone with this solver, as it is looked up while it runs
-own() {
-    local pid peak=0 now
-    "$vsil" verify --solver "$1" < "$folder/file.vpr" > /dev/null &
-    pid=$!
-    while now=$(awk '/^VmHWM/ { print $2 }' "/proc/$pid/status" 2> /dev/null) && [ -n "$now" ]; do
-        peak=$now
-        sleep 0.01
-    done
-    wait "$pid" || true
-    echo "$peak kB"
-}
+# own SOLVER: prints what `vsil` itself takes with this solver: its processor seconds, and the peak of its memory
+own() { "$(dirname "${BASH_SOURCE[0]}")/own.py" "$folder/file.vpr" "$vsil" verify --solver "$1"; }
 
 # of_solver WHAT SIZE COMMAND: times `vsil` with this solver on the file, and the solver alone on what it was sent
 of_solver() {
@@ -61,7 +51,7 @@ of_solver() {
     timed "$what, with $command" "$size" "$folder/file.vpr" "$vsil" verify --solver "$command"
     recorded "$command"
     "$vsil" verify --solver "$folder/recorded" < "$folder/file.vpr" > /dev/null || true
-    remark "$what, $size: $(grep -c '^(assert' "$folder/dialogue") assertions, $(wc -c < "$folder/dialogue") bytes sent; with $command vsil alone takes $(own "$command")"
+    remark "$what, $size: $(grep -c '^(assert' "$folder/dialogue") assertions, $(wc -c < "$folder/dialogue") bytes sent; with $command vsil itself takes $(own "$command")"
     # (a command with its words)
     # shellcheck disable=SC2086
     timed "$what, $command alone" "$size" "$folder/dialogue" $command
@@ -76,7 +66,7 @@ of_all() {
         if has z3; then of_solver "$what" "$count" "z3 -in"; fi
         if has cvc5 && [ "$count" -le 400 ]; then of_solver "$what" "$count" "cvc5 --incremental"; fi
         timed "$what, answered at once" "$count" "$folder/file.vpr" "$vsil" verify --solver "$folder/agrees"
-        remark "$what, $count: answered at once vsil alone takes $(own "$folder/agrees")"
+        remark "$what, $count: answered at once vsil itself takes $(own "$folder/agrees")"
     done
 }
 
