@@ -3,9 +3,9 @@ use Rattle.std.proofs.Common.{◌≡◌, ℕ, Bool, true, false, cond, not, ◌&
 use Rattle.vx_ast.specs.Syntax.{Name, Program, Declaration}
 use Rattle.vx_terms.specs.Sorts.{Sort, Equal}
 use Rattle.vx_terms.specs.Terms.{Term, Binary, same, sort_of}
-use Rattle.vx_terms.specs.Build.{equals, pair, first, second, unit, wrap, written_unwrap, unwrap, zero_amount, whole_amount}
-use Rattle.vx_rules.specs.States.{Chunk, State, with_fact, with_facts, with_entry, is_known, is_named, name_of, after_name, fresh, after_fresh, declare_all, declare_fresh, sort_of_type, with_heap, with_store, assign, found, is_stored}
-use Rattle.vx_rules.specs.Chunks.{field_key, put, put_over, chosen, field_facts, instance_facts}
+use Rattle.vx_terms.specs.Build.{equals, subtract, pair, first, second, unit, wrap, written_unwrap, unwrap, zero_amount, whole_amount}
+use Rattle.vx_rules.specs.States.{Chunk, State, with_fact, with_facts, with_entry, is_quiet, is_known, is_named, name_of, after_name, fresh, after_fresh, declare_all, declare_fresh, sort_of_type, with_heap, with_store, assign, found, is_stored}
+use Rattle.vx_rules.specs.Chunks.{field_key, Candidate, chosen, share, with_amount, shared_out, value_facts, with_value, value_where, written, written_each, put_over, put_facts, put}
 use Rattle.vx_ast.specs.Mentions.{is_among}
 use Rattle.vx_rules.specs.Rules.{Context, field_sort, after_value, after_snapshot, with_split, with_unit, with_built_wrap, with_built_pair, pair_facts}
 use Rattle.vx_rules.specs.Members.{forget, put_fields, after_names}
@@ -30,9 +30,25 @@ names_level (t ∷ ts) s e = names_level ts (after_name t s) (name_level t s e)
 
 pub put_level : {l : ℕ} (c : Chunk) (s : State) → s.level ≡ l → (put c s).level ≡ l
 put_level c s e =
-    let facts = cond c.is_field (field_facts s.bounded (chosen true c 0 s.heap) c s.heap) (instance_facts (chosen true c 0 s.heap) c) in
+    let facts = put_facts (not (is_quiet s)) s.bounded c s.heap in
     let over = with_heap (put_over (chosen true c 0 s.heap) c s.heap) s in
     level_case (same c.amount zero_amount) s (with_facts facts over) e (facts_level facts over e)
+
+pub seen_level : {l : ℕ} (r u : Term) (cs : List Candidate) (s : State) → s.level ≡ l → (with_value r u cs s).level ≡ l
+seen_level r u cs s e = facts_level (value_facts r u cs) (after_fresh s) e
+
+pub shares_level : {l : ℕ} (r n : Term) (cs : List Candidate) (s : State) → s.level ≡ l → (shared_out r n cs s).level ≡ l
+shares_level r n [] s e = e
+shares_level r n (c ∷ cs) s e =
+    let t = share r n c.chunk in
+    let taken = name_of t s in
+    let s1 = after_name t s in
+    let rest = subtract c.chunk.amount taken in
+    shares_level r (subtract n taken) cs (with_amount c rest s1) (name_level rest s1 (name_level t s e))
+
+pub written_level : {l : ℕ} (r t : Term) (cs : List Candidate) (s : State) → s.level ≡ l → (written_each r t cs s).level ≡ l
+written_level r t [] s e = e
+written_level r t (c ∷ cs) s e = let v = value_where r t c.chunk in written_level r t cs (written c v s) (name_level v s e)
 
 pub value_level : {l : ℕ} (a : Sort) (t : Option Term) (s : State) → s.level ≡ l → (after_value a t s).level ≡ l
 value_level a None s e = e

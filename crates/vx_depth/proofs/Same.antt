@@ -1,5 +1,5 @@
 -- Rules over two rules of other members' parts that agree on what is entered give the same trees.
-use Rattle.std.proofs.Common.{◌≡◌, ℕ, Bool, true, false, cond, ◌&&◌, ◌||◌, List, [], ◌∷◌, ◌++◌, Option, Some, None, refl, ap, ap₂, ◌∙◌}
+use Rattle.std.proofs.Common.{◌≡◌, ℕ, Bool, true, false, not, cond, ◌&&◌, ◌||◌, List, [], ◌∷◌, ◌++◌, Option, Some, None, refl, ap, ap₂, ◌∙◌}
 use Rattle.std.specs.Prelude.{pos}
 use Rattle.vx_ast.specs.declared.Place.{Place}
 use Rattle.vx_ast.specs.Syntax.{Name, Program, Predicate, Function, predicate_named, function_named, joined, place_of, Connective, And, Or, Implies, Expr, Number, Truth, Null, Part, Variable, Not, Operate, Divide, Connect, Choose, Read, Old, Apply, Unfolding, Exprs, NoMore, More, Assertion, Pure, Points, Instance, Both, Implied, Chosen, Measure, ByNumber, ByInstance}
@@ -8,15 +8,15 @@ use Rattle.vx_terms.specs.Interpretations.{Each}
 use Rattle.vx_terms.specs.Sorts.{Sort, SnapSort}
 use Rattle.vx_terms.specs.Terms as term
 use Rattle.vx_terms.specs.Terms.{Term, same}
-use Rattle.vx_terms.specs.Build.{true_term, false_term, negate, ite, equals, unit, pair, wrap, zero_amount, whole_amount, multiply, application}
+use Rattle.vx_terms.specs.Build.{true_term, false_term, negate, ite, equals, less, less_equal, unit, pair, wrap, zero_amount, whole_amount, multiply, application}
 use Rattle.vx_rules.specs.States.{sort_of_type, bind, Store, Chunk, Own, State, is_quiet, is_known, with_heap, with_fact, with_branch, name_of, after_name, fresh, after_fresh}
 use Rattle.vx_rules.specs.Trees.{Code, MeasureCode, UnfoldCode, PermissionCode, AmountCode, DivisorCode, FunctionCode, Tree, Step, Ask, Fork}
-use Rattle.vx_rules.specs.Chunks.{Candidate, field_key, instance_key, candidates, only_inner, reduced, put}
+use Rattle.vx_rules.specs.Chunks.{Candidate, field_key, instance_key, first_argument, chosen, candidates, holds_some, holds_amount, surely, sum_at, with_value, shared_out, without_empty, written, written_each, only_inner, reduced, put}
 use Rattle.vx_rules.specs.Groups.{is_in_group, function_number}
-use Rattle.vx_rules.specs.Rules.{Giving, Going, Outer, question, unless_false, ask, never, probe, fork, short, operated, divided, connected, is_total, first_with, holds_some, holds_amount, take_chunk, written, write_field, field_sort, entered, back, placed, lesser, leads_inside, terms, left_part, right_part, with_split, with_unit, produced_value, after_value, produced_snapshot, after_snapshot, with_built_wrap, with_built_pair, with_equations, decreasing, measured, applied, unfolded, eval, evals, produce, consume}
+use Rattle.vx_rules.specs.Rules.{Giving, Going, Outer, question, unless_false, ask, never, probe, fork, short, operated, divided, connected, is_total, first_with, by_sum, take_chunk, read_field, write_field, field_sort, entered, back, placed, lesser, leads_inside, terms, left_part, right_part, with_split, with_unit, produced_value, after_value, produced_snapshot, after_snapshot, with_built_wrap, with_built_pair, with_equations, decreasing, measured, applied, unfolded, eval, evals, produce, consume}
 use Rattle.vx_ast.specs.Apart.{entered_by}
 use Rattle.vx_depth.specs.Depths.{SameGiving, SameGoing, EvalSame, EvalsSame, ProduceSame, ConsumeSame}
-use Rattle.vx_depth.proofs.Levels.{fact_level, name_level, put_level, value_level, snapshot_level, split_level, unit_level, wrap_level, pair_level}
+use Rattle.vx_depth.proofs.Levels.{fact_level, name_level, put_level, value_level, snapshot_level, split_level, unit_level, wrap_level, pair_level, seen_level, shares_level, written_level}
 
 -- Lists and choices
 
@@ -57,13 +57,45 @@ pub first_same : (wanted : Chunk → Term) (cs : List Candidate) (at : Place) (c
 first_same wanted [] at code s h e = e
 first_same wanted (c ∷ cs) at code s h e = probe_same (wanted c.chunk) at code s (h c) (first_same wanted cs at code s h e)
 
+sum_same : {l : ℕ} (wanted : Chunk → Term) (asked : Term → Term) (key : Chunk) (at : Place) (code : Code) (s : State) {on other : Candidate → Tree} {summed summed' : Going} → s.level ≡ l →
+    ((c : Candidate) → on c ≡ other c) → SameGoing l summed summed' → by_sum wanted asked key at code s on summed ≡ by_sum wanted asked key at code s other summed'
+sum_same wanted asked key at code s {on = on} {other = other} {summed = summed} {summed' = summed'} e h k = go (surely wanted (chosen true key 0 s.heap))
+  where
+    all : Term
+    all = asked (sum_at (first_argument key.arguments) (candidates key s.heap))
+
+    go : (o : Option Candidate) → elim o as (λ o. Tree) [ Some c ↦ Step (on c) | None ↦ ask all at code s summed ] ≡ elim o as (λ o. Tree) [ Some c ↦ Step (other c) | None ↦ ask all at code s summed' ]
+    go (Some c) = ap Step (h c)
+    go None = ask_same all at code s e k
+
 taken_same : {l : ℕ} (key : Chunk) (a : Term) (sort : Sort) (at : Place) (code : Code) (s : State) {on other : Chunk → State → Tree} → s.level ≡ l →
     ((c : Chunk) → SameGoing l (on c) (other c)) → take_chunk key a sort at code s on ≡ take_chunk key a sort at code s other
-taken_same key a sort at code s e h = first_same (holds_amount a key.arguments) (candidates key s.heap) at code s (λ c. h c.chunk (with_heap (reduced c a s.heap) s) e)
-    (if_same (is_quiet s) refl (ask_same (equals a zero_amount) at code s e (λ s1 e1. h (record key { amount = a; value = fresh sort s1 }) (after_fresh s1) e1)))
+taken_same key a sort at code s e h =
+    let r = first_argument key.arguments in
+    if_same (key.is_field && not (is_quiet s))
+    (sum_same (holds_amount a key.arguments) (less_equal a) key at code s e (λ c. h c.chunk (with_heap (reduced c a s.heap) s) e) (λ s1 e1.
+    let cs = candidates key s1.heap in
+    let s2 = shared_out r a cs s1 in
+    let u = fresh sort s2 in
+    let s3 = with_heap (without_empty s2.heap) s2 in
+    h (record key { amount = a; value = u }) (with_value r u cs s3) (seen_level r u cs s3 (shares_level r a cs s1 e1))))
+    (first_same (holds_amount a key.arguments) (candidates key s.heap) at code s (λ c. h c.chunk (with_heap (reduced c a s.heap) s) e)
+    (if_same (is_quiet s) refl (ask_same (equals a zero_amount) at code s e (λ s1 e1. h (record key { amount = a; value = fresh sort s1 }) (after_fresh s1) e1))))
+
+read_same : {l : ℕ} (f : Name) (r : Term) (sort : Sort) (at : Place) (s : State) {on other : Giving} → s.level ≡ l → SameGiving l on other → read_field f r sort at s on ≡ read_field f r sort at s other
+read_same f r sort at s e h =
+    let key = field_key f r in
+    if_same (is_quiet s)
+    (first_same (holds_some (r ∷ [])) (candidates key s.heap) at PermissionCode s (λ c. h c.chunk.value s e) refl)
+    (sum_same (holds_some (r ∷ [])) (less zero_amount) key at PermissionCode s e (λ c. h c.chunk.value s e) (λ s1 e1.
+    let u = fresh sort s1 in
+    let cs = candidates key s1.heap in
+    h u (with_value r u cs s1) (seen_level r u cs s1 e1)))
 
 pub write_same : {l : ℕ} (f : Name) (r t : Term) (at : Place) (s : State) {on other : Going} → s.level ≡ l → SameGoing l on other → write_field f r t at s on ≡ write_field f r t at s other
-write_same f r t at s e h = first_same (holds_amount whole_amount (r ∷ [])) (candidates (field_key f r) s.heap) at PermissionCode s (λ c. h (written c t s) (name_level t s e)) refl
+write_same f r t at s e h =
+    sum_same (holds_amount whole_amount (r ∷ [])) (less_equal whole_amount) (field_key f r) at PermissionCode s e (λ c. h (written c t s) (name_level t s e))
+    (λ s1 e1. let cs = candidates (field_key f r) s1.heap in h (written_each r t cs s1) (written_level r t cs s1 e1))
 
 -- The two rules agree on what is entered from names of a kind, on a level.
 pub record Opens (p : Program) (Good : Name → Type 0) (l : ℕ) (o o' : Outer) : Type 0 where
@@ -173,7 +205,7 @@ module _ (p : Program) (Good : Name → Type 0) (l : ℕ) (o o' : Outer) (opens 
         (ap Step (eval_same c (each_left Good (mentioned c) (mentioned a) rest) s v _ _ (λ t s1 v1.
         fork_same t s1 v1 (λ s2 v2. eval_same a (each_right Good (mentioned c) (mentioned a) rest) s2 v2 on other h) (λ s2 v2. eval_same b (each_right Good (mentioned c ++ mentioned a) (mentioned b) k) s2 v2 on other h))))
     eval_same (Read at e f) k s v on other h =
-        ap Step (eval_same e k s v _ _ (λ r s1 v1. first_same (holds_some (r ∷ [])) (candidates (field_key f r) s1.heap) (placed s1 at) PermissionCode s1 (λ c. h c.chunk.value s1 v1) refl))
+        ap Step (eval_same e k s v _ _ (λ r s1 v1. read_same f r (field_sort p f) (placed s1 at) s1 v1 h))
     eval_same (Old at e) k s v on other h =
         ap Step (eval_same e k (with_heap s.old s) v _ _ (λ t s1 v1. ap Step (h t (with_heap s.heap s1) v1)))
     eval_same (Apply at f es) k s v on other h =

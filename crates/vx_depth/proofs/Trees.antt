@@ -6,8 +6,8 @@ use Rattle.vx_terms.specs.Terms.{Term}
 use Rattle.vx_terms.specs.Build.{whole_amount}
 use Rattle.vx_rules.specs.States.{with_heap, declare, declare_all, fresh, after_fresh}
 use Rattle.vx_rules.specs.Trees.{PostCode, MeasureCode, Tree, End, Step, Fork}
-use Rattle.vx_rules.specs.Chunks.{instance_key, candidates}
-use Rattle.vx_rules.specs.Rules.{outer, holds_some, produce}
+use Rattle.vx_rules.specs.Chunks.{instance_key, candidates, holds_some}
+use Rattle.vx_rules.specs.Rules.{outer, produce}
 use Rattle.vx_rules.specs.Members.{codes, depth, rules, blank, ended, with_new_returns, rooted, promise_side, body_side, both_sides, method_over, function_body, from_measure, function_over, predicate_over, tree_over, tree}
 use Rattle.vx_depth.specs.Entering.{NoneWithinItself}
 use Rattle.vx_depth.specs.Depths.{SameGoing, SameRules}

@@ -37,7 +37,7 @@ module _ (p : Program) (o : Outer) (below : OuterGrows o) where
         either_grows s (is_total a && is_total b) _ _
         (eval_grows c s _ (λ t s1. eval_grows a s1 _ (λ u s2. eval_grows b s2 _ (λ v s3. h (ite t u v) s3))))
         (eval_grows c s _ (λ t s1. fork_grows s1 t (λ s2. eval p o a s2 on) (λ s2. eval p o b s2 on) (λ s2. eval_grows a s2 on h) (λ s2. eval_grows b s2 on h)))
-    eval_grows (Read at e f) s on h = eval_grows e s _ (λ r s1. read_grows s1 f r (placed s1 at) on h)
+    eval_grows (Read at e f) s on h = eval_grows e s _ (λ r s1. read_grows s1 f r (field_sort p f) (placed s1 at) on h)
     eval_grows (Old at e) s on h = eval_grows e (with_heap s.old s) _ (λ t s1. h t (with_heap s.heap s1))
     eval_grows (Apply at f es) s on h = evals_grows es s _ (λ ts s1. applied_grows p o below (placed s1 at) f ts s1 on h)
     eval_grows (Unfolding at i es share e) s on h =

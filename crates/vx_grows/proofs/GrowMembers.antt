@@ -7,8 +7,8 @@ use Rattle.vx_terms.specs.Terms.{Term}
 use Rattle.vx_terms.specs.Build.{whole_amount}
 use Rattle.vx_rules.specs.States.{State, declare, leave, with_heap, fresh, after_fresh, declare_all}
 use Rattle.vx_rules.specs.Trees.{PostCode, MeasureCode, Tree, End, Fork}
-use Rattle.vx_rules.specs.Chunks.{instance_key, candidates}
-use Rattle.vx_rules.specs.Rules.{Outer, never, first_with, holds_some, produce, consume}
+use Rattle.vx_rules.specs.Chunks.{instance_key, candidates, holds_some}
+use Rattle.vx_rules.specs.Rules.{Outer, never, first_with, produce, consume}
 use Rattle.vx_rules.specs.Members.{codes, depth, rules, blank, ended, with_new_returns, rooted, promise_side, body_side, both_sides, sides, method_over, function_body, from_measure, function_over, predicate_over}
 use Rattle.vx_grows.specs.Grows.{Grows, GrowthLaw}
 use Rattle.vx_grows.proofs.Bases.{at_first, sooner}

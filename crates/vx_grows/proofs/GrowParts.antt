@@ -7,9 +7,9 @@ use Rattle.vx_terms.specs.Terms.{Term}
 use Rattle.vx_terms.specs.Build.{application, whole_amount}
 use Rattle.vx_rules.specs.States.{sort_of_type, Store, bind, Chunk, Heap, Own, State, is_quiet, with_heap, name_of, after_name}
 use Rattle.vx_rules.specs.Trees.{FunctionCode, UnfoldCode, MeasureCode, Tree, Step}
-use Rattle.vx_rules.specs.Chunks.{instance_key, candidates, only_inner}
+use Rattle.vx_rules.specs.Chunks.{instance_key, candidates, holds_some, only_inner}
 use Rattle.vx_rules.specs.Groups.{is_in_group, function_number}
-use Rattle.vx_rules.specs.Rules.{Giving, Going, GivingAll, never, holds_some, Context, entered, back, terms, leads_inside, Outer, with_equations, lesser, decreasing, measured, applied, unfolded}
+use Rattle.vx_rules.specs.Rules.{Giving, Going, GivingAll, never, Context, entered, back, terms, leads_inside, Outer, with_equations, lesser, decreasing, measured, applied, unfolded}
 use Rattle.vx_grows.proofs.Later.{name_later, equations_later}
 use Rattle.vx_grows.proofs.GrowSteps.{GrowsIn, Follows, FollowsWith, FollowsAll, earlier, either_grows, ask_grows, never_grows, first_grows, take_grows}
 

@@ -1,17 +1,17 @@
 -- What asks, forks or looks for a chunk grows from its state's path where what follows does.
-use Rattle.std.proofs.Common.{Bool, true, false, cond, ◌||◌, List, [], ◌∷◌}
+use Rattle.std.proofs.Common.{Bool, true, false, not, cond, ◌&&◌, ◌||◌, List, [], ◌∷◌, Option, Some, None}
 use Rattle.vx_ast.specs.declared.Place.{Place}
 use Rattle.vx_ast.specs.Syntax.{Name, Connective, And, Or, Implies}
 use Rattle.vx_terms.specs.Sorts.{Sort}
 use Rattle.vx_terms.specs.Terms.{Term, same}
-use Rattle.vx_terms.specs.Build.{true_term, false_term, negate, equals, whole_amount, zero_amount}
+use Rattle.vx_terms.specs.Build.{true_term, false_term, negate, equals, less, less_equal, whole_amount, zero_amount}
 use Rattle.vx_rules.specs.States.{Chunk, State, is_quiet, with_heap, is_known, with_fact, with_branch, path_terms, fresh, after_fresh}
 use Rattle.vx_rules.specs.Trees.{Code, PermissionCode, Tree, End, Impossible, Step, Ask, Probe, Fork}
-use Rattle.vx_rules.specs.Chunks.{field_key, Candidate, candidates, reduced}
-use Rattle.vx_rules.specs.Rules.{Giving, Going, GivingAll, question, unless_false, ask, never, probe, fork, short, first_with, holds_some, holds_amount, take_fresh, take_chunk, read_field, written, write_field}
+use Rattle.vx_rules.specs.Chunks.{field_key, first_argument, Candidate, chosen, candidates, holds_some, holds_amount, surely, sum_at, with_value, shared_out, without_empty, written, written_each, reduced}
+use Rattle.vx_rules.specs.Rules.{Giving, Going, GivingAll, question, unless_false, ask, never, probe, fork, short, first_with, by_sum, take_fresh, take_chunk, read_field, write_field}
 use Rattle.vx_grows.specs.Grows.{Grows}
-use Rattle.vx_grows.proofs.Bases.{itself, sooner}
-use Rattle.vx_grows.proofs.Later.{Later, branch_later, fact_later, name_later}
+use Rattle.vx_grows.proofs.Bases.{itself, further, sooner}
+use Rattle.vx_grows.proofs.Later.{Later, branch_later, fact_later, seen_later, written_later, shares_later, each_later}
 
 -- What follows
 
@@ -84,20 +84,75 @@ fresh_grows s key a sort at code on h =
     either_grows s (is_quiet s) End (ask (equals a zero_amount) at code s new) tt
     (ask_grows s (equals a zero_amount) at code new (λ s1. h (record key { amount = a; value = fresh sort s1 }) (after_fresh s1)))
 
+sum_grows : (s : State) (wanted : Chunk → Term) (asked : Term → Term) (key : Chunk) (at : Place) (code : Code) (on : Candidate → Tree) (summed : Going) → ((c : Candidate) → GrowsIn s (on c)) → Follows summed →
+    GrowsIn s (by_sum wanted asked key at code s on summed)
+sum_grows s wanted asked key at code on summed g h = go (surely wanted (chosen true key 0 s.heap))
+  where
+    all : Term
+    all = asked (sum_at (first_argument key.arguments) (candidates key s.heap))
+
+    by_first : Option Candidate → Tree
+    by_first None = ask all at code s summed
+    by_first (Some c) = Step (on c)
+
+    go : (c : Option Candidate) → GrowsIn s (by_first c)
+    go None = ask_grows s all at code summed h
+    go (Some c) = g c
+
+-- what is taken, read or written over all candidates
+
+abbrev pub taking_all : Chunk → Term → Sort → (Chunk → Going) → Going
+taking_all key a sort on s =
+    let r = first_argument key.arguments in
+    let cs = candidates key s.heap in
+    let s1 = shared_out r a cs s in
+    let u = fresh sort s1 in
+    on (record key { amount = a; value = u }) (with_value r u cs (with_heap (without_empty s1.heap) s1))
+
+pub taking_all_grows : (s : State) (key : Chunk) (a : Term) (sort : Sort) (on : Chunk → Going) → ((c : Chunk) → Follows (on c)) → GrowsIn s (taking_all key a sort on s)
+taking_all_grows s key a sort on h =
+    let r = first_argument key.arguments in
+    let cs = candidates key s.heap in
+    let s1 = shared_out r a cs s in
+    let u = fresh sort s1 in
+    let s2 = with_heap (without_empty s1.heap) s1 in
+    sooner (taking_all key a sort on s) (further (shares_later r a cs s).begins (seen_later r u cs s2).begins) (h (record key { amount = a; value = u }) (with_value r u cs s2))
+
+abbrev pub reading_all : Name → Term → Sort → Giving → Going
+reading_all f r sort on s = on (fresh sort s) (with_value r (fresh sort s) (candidates (field_key f r) s.heap) s)
+
+pub reading_all_grows : (s : State) (f : Name) (r : Term) (sort : Sort) (on : Giving) → FollowsWith on → GrowsIn s (reading_all f r sort on s)
+reading_all_grows s f r sort on h =
+    let u = fresh sort s in
+    let cs = candidates (field_key f r) s.heap in
+    earlier (seen_later r u cs s) (on u (with_value r u cs s)) (h u (with_value r u cs s))
+
+abbrev pub writing_all : Name → Term → Term → Going → Going
+writing_all f r t on s = on (written_each r t (candidates (field_key f r) s.heap) s)
+
+pub writing_all_grows : (s : State) (f : Name) (r t : Term) (on : Going) → Follows on → GrowsIn s (writing_all f r t on s)
+writing_all_grows s f r t on h =
+    let cs = candidates (field_key f r) s.heap in
+    earlier (each_later r t cs s) (writing_all f r t on s) (h (written_each r t cs s))
+
 pub take_grows : (s : State) (key : Chunk) (a : Term) (sort : Sort) (at : Place) (code : Code) (on : Chunk → Going) → ((c : Chunk) → Follows (on c)) → GrowsIn s (take_chunk key a sort at code s on)
 take_grows s key a sort at code on h =
-    first_grows s (holds_amount a key.arguments) (candidates key s.heap) at code (λ c. on c.chunk (with_heap (reduced c a s.heap) s)) (take_fresh key a sort at code s on)
-    (λ c. h c.chunk (with_heap (reduced c a s.heap) s)) (fresh_grows s key a sort at code on h)
+    let taking = λ (c : Candidate). on c.chunk (with_heap (reduced c a s.heap) s) in
+    let taken = λ (c : Candidate). h c.chunk (with_heap (reduced c a s.heap) s) in
+    either_grows s (key.is_field && not (is_quiet s)) _ _
+    (sum_grows s (holds_amount a key.arguments) (less_equal a) key at code taking (taking_all key a sort on) taken (λ s1. taking_all_grows s1 key a sort on h))
+    (first_grows s (holds_amount a key.arguments) (candidates key s.heap) at code taking (take_fresh key a sort at code s on) taken (fresh_grows s key a sort at code on h))
 
-pub read_grows : (s : State) (f : Name) (r : Term) (at : Place) (on : Giving) → FollowsWith on → GrowsIn s (read_field f r at s on)
-read_grows s f r at on h =
-    first_grows s (holds_some (r ∷ [])) (candidates (field_key f r) s.heap) at PermissionCode (λ c. on c.chunk.value s) (never at PermissionCode s)
-    (λ c. h c.chunk.value s) (never_grows s at PermissionCode)
-
-pub written_later : (c : Candidate) (t : Term) (s : State) → Later s (written c t s)
-written_later c t s = record { begins = (name_later t s).begins }
+pub read_grows : (s : State) (f : Name) (r : Term) (sort : Sort) (at : Place) (on : Giving) → FollowsWith on → GrowsIn s (read_field f r sort at s on)
+read_grows s f r sort at on h =
+    let key = field_key f r in
+    let reading = λ (c : Candidate). on c.chunk.value s in
+    let follows = λ (c : Candidate). h c.chunk.value s in
+    either_grows s (is_quiet s) _ _
+    (first_grows s (holds_some (r ∷ [])) (candidates key s.heap) at PermissionCode reading (never at PermissionCode s) follows (never_grows s at PermissionCode))
+    (sum_grows s (holds_some (r ∷ [])) (less zero_amount) key at PermissionCode reading (reading_all f r sort on) follows (λ s1. reading_all_grows s1 f r sort on h))
 
 pub write_grows : (s : State) (f : Name) (r t : Term) (at : Place) (on : Going) → Follows on → GrowsIn s (write_field f r t at s on)
 write_grows s f r t at on h =
-    first_grows s (holds_amount whole_amount (r ∷ [])) (candidates (field_key f r) s.heap) at PermissionCode (λ c. on (written c t s)) (never at PermissionCode s)
-    (λ c. earlier (written_later c t s) (on (written c t s)) (h (written c t s))) (never_grows s at PermissionCode)
+    sum_grows s (holds_amount whole_amount (r ∷ [])) (less_equal whole_amount) (field_key f r) at PermissionCode (λ c. on (written c t s)) (writing_all f r t on)
+    (λ c. earlier (written_later c t s) (on (written c t s)) (h (written c t s))) (λ s1. writing_all_grows s1 f r t on h)

@@ -7,9 +7,9 @@ use Rattle.vx_terms.specs.Sorts as sort
 use Rattle.vx_terms.specs.Sorts.{Sort}
 use Rattle.vx_terms.specs.Terms as term
 use Rattle.vx_terms.specs.Terms.{Term, same, sort_of}
-use Rattle.vx_terms.specs.Build.{equals, wrap, written_unwrap, unwrap, whole_amount, zero_amount}
-use Rattle.vx_rules.specs.States.{sort_of_type, found, is_stored, assign, bind, Entry, Chunk, State, with_store, with_heap, is_known, with_entry, with_fact, with_facts, with_branch, path_terms, fresh, after_fresh, declare_fresh, declare_all, is_named, after_name}
-use Rattle.vx_rules.specs.Chunks.{field_key, chosen, field_facts, instance_facts, put_over, put}
+use Rattle.vx_terms.specs.Build.{equals, subtract, wrap, written_unwrap, unwrap, whole_amount, zero_amount}
+use Rattle.vx_rules.specs.States.{sort_of_type, found, is_stored, assign, bind, Entry, Chunk, State, is_quiet, with_store, with_heap, is_known, with_entry, with_fact, with_facts, with_branch, path_terms, fresh, after_fresh, declare_fresh, declare_all, is_named, name_of, after_name}
+use Rattle.vx_rules.specs.Chunks.{field_key, Candidate, chosen, value_facts, with_value, with_amount, written, share, shared_out, value_where, written_each, put_over, put_facts, put}
 use Rattle.vx_rules.specs.Rules.{Context, Outer, field_sort, with_built_wrap, with_built_pair, pair_facts, after_value, after_snapshot, with_split, with_unit, gathered, quietly, sides_of, with_body, with_promise, with_equations}
 use Rattle.vx_rules.specs.Members.{forget, put_fields, after_names}
 use Rattle.vx_grows.specs.Grows.{Begins}
@@ -82,7 +82,7 @@ pub put_later : (c : Chunk) (s : State) → Later s (put c s)
 put_later c s = go (same c.amount zero_amount)
   where
     facts : List Term
-    facts = cond c.is_field (field_facts s.bounded (chosen true c 0 s.heap) c s.heap) (instance_facts (chosen true c 0 s.heap) c)
+    facts = put_facts (not (is_quiet s)) s.bounded c s.heap
 
     held : State
     held = with_heap (put_over (chosen true c 0 s.heap) c s.heap) s
@@ -90,6 +90,30 @@ put_later c s = go (same c.amount zero_amount)
     go : (b : Bool) → Later s (cond b s (with_facts facts held))
     go true = stays
     go false = record { begins = (facts_later facts held).begins }
+
+pub seen_later : (r u : Term) (cs : List Candidate) (s : State) → Later s (with_value r u cs s)
+seen_later r u cs s = record { begins = (facts_later (value_facts r u cs) (after_fresh s)).begins }
+
+pub written_later : (c : Candidate) (t : Term) (s : State) → Later s (written c t s)
+written_later c t s = record { begins = (name_later t s).begins }
+
+amount_later : (c : Candidate) (b : Term) (s : State) → Later s (with_amount c b s)
+amount_later c b s = record { begins = (name_later b s).begins }
+
+pub shares_later : (r n : Term) (cs : List Candidate) (s : State) → Later s (shared_out r n cs s)
+shares_later r n [] s = stays
+shares_later r n (c ∷ cs) s =
+    let t = share r n c.chunk in
+    let taken = name_of t s in
+    let s1 = after_name t s in
+    let kept = subtract c.chunk.amount taken in
+    after (name_later t s) (after (amount_later c kept s1) (shares_later r (subtract n taken) cs (with_amount c kept s1)))
+
+pub each_later : (r t : Term) (cs : List Candidate) (s : State) → Later s (written_each r t cs s)
+each_later r t [] s = stays
+each_later r t (c ∷ cs) s =
+    let v = value_where r t c.chunk in
+    after (written_later c v s) (each_later r t cs (written c v s))
 
 pub fields_later : (p : Program) (fs : List Name) (x : Term) (s : State) → Later s (put_fields p fs x s)
 fields_later p [] x s = stays
