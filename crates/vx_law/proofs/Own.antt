@@ -1,6 +1,6 @@
 -- A quiet evaluation asks for no measure, so it is the same whichever function's body is walked: from a state with another `own` it leaves
 -- the same sides, with that other `own`. What an application tells is then the same too.
-use Rattle.std.proofs.Common.{◌≡◌, ◌∙◌, ◌+◌, refl, sym, ap, ap₂, pos, ℕ, zero, suc, Bool, true, false, cond, ◌&&◌, ◌||◌, List, [], ◌∷◌, ◌++◌, Option, Some, None, arith}
+use Rattle.std.proofs.Common.{◌≡◌, ◌∙◌, ◌+◌, refl, sym, ap, ap₂, pos, ℕ, zero, suc, Bool, true, false, not, cond, ◌&&◌, ◌||◌, List, [], ◌∷◌, ◌++◌, Option, Some, None, arith}
 use Rattle.std.proofs.lemmas.Bool.{lt-ltb}
 use Rattle.std.specs.Prelude.{nat_lt, map}
 use Rattle.vx_ast.specs.declared.Place.{Place}
@@ -13,9 +13,9 @@ use Rattle.vx_terms.specs.Build.{true_term, false_term, negate, equals, less, le
 use Rattle.vx_rules.specs.States as rules
 use Rattle.vx_rules.specs.States.{State, Own, Heap, Store, Chunk, is_quiet, with_heap, with_entry, with_fact, with_facts, with_branch, is_known, name_of, after_name}
 use Rattle.vx_rules.specs.Trees.{Code, AssertCode, AmountCode, DivisorCode, PermissionCode, UnfoldCode, FunctionCode, Tree, End, Impossible, On, Step, Ask, Probe, Fork, Left, leaves}
-use Rattle.vx_rules.specs.Chunks.{Candidate, candidates, chosen, put, put_over, field_facts, instance_facts, reduced, instance_key, field_key}
+use Rattle.vx_rules.specs.Chunks.{Candidate, candidates, chosen, holds_some, holds_amount, put_over, put_facts, put, reduced, instance_key, field_key}
 use Rattle.vx_rules.specs.Groups.{is_in_group, function_number}
-use Rattle.vx_rules.specs.Rules.{placed, terms, operated, divided, connected, Giving, Going, GivingAll, Context, Outer, outer, nowhere, ask, never, probe, fork, short, is_total, first_with, holds_some, holds_amount, take_fresh, take_chunk, field_sort, entered, back, with_built_wrap, with_built_pair, pair_facts, produced_value, after_value, produced_snapshot, after_snapshot, with_split, with_unit, decreasing, measured, applied, gathered, quietly, sides_of, with_body, with_promise, with_equations, unfolded, leads_inside, eval, evals, produce, consume}
+use Rattle.vx_rules.specs.Rules.{placed, terms, operated, divided, connected, Giving, Going, GivingAll, Context, Outer, outer, nowhere, ask, never, probe, fork, short, is_total, first_with, take_fresh, take_chunk, read_field, field_sort, entered, back, with_built_wrap, with_built_pair, pair_facts, produced_value, after_value, produced_snapshot, after_snapshot, with_split, with_unit, decreasing, measured, applied, gathered, quietly, sides_of, with_body, with_promise, with_equations, unfolded, leads_inside, eval, evals, produce, consume}
 use Rattle.vx_live.proofs.Quiet.{Quiet, still_quiet, fact_still, name_still, put_still, value_still, split_still, unit_still, built_wrap_still, built_pair_still, equations_still, outer_left}
 
 map_append : {A B : Type 0} (f : A → B) (xs ys : List A) → map f (xs ++ ys) ≡ map f xs ++ map f ys
@@ -70,7 +70,7 @@ module _ (own : Option Own) where
       go false = fact_there (equals (rules.fresh (sort_of t) s) t) (rules.after_fresh s)
 
   put_there : (c : Chunk) (s : State) → put c (there s) ≡ there (put c s)
-  put_there c s = go (same c.amount zero_amount) (cond c.is_field (field_facts s.bounded (chosen true c 0 s.heap) c s.heap) (instance_facts (chosen true c 0 s.heap) c)) (with_heap (put_over (chosen true c 0 s.heap) c s.heap) s)
+  put_there c s = go (same c.amount zero_amount) (put_facts (not (is_quiet s)) s.bounded c s.heap) (with_heap (put_over (chosen true c 0 s.heap) c s.heap) s)
     where
       go : (b : Bool) (facts : List Term) (held : State) → cond b (there s) (with_facts facts (there held)) ≡ there (cond b s (with_facts facts held))
       go true facts held = refl
@@ -118,6 +118,16 @@ module _ (own : Option Own) where
   end_there true e y y' = refl
   end_there false e y y' = cc
 
+  -- above level 0 no sum is asked for
+  unsummed_there : (a b : Bool) → b ≡ true → (x y x' y' : Tree) → moved y ≡ y' → moved (cond (a && not b) x y) ≡ cond (a && not b) x' y'
+  unsummed_there true true e x y x' y' h = h
+  unsummed_there false true e x y x' y' h = h
+  unsummed_there a false e x y x' y' h = cc
+
+  quiet_there : (b : Bool) → b ≡ true → (x y x' y' : Tree) → moved x ≡ x' → moved (cond b x y) ≡ cond b x' y'
+  quiet_there true e x y x' y' h = h
+  quiet_there false e x y x' y' h = cc
+
   ask_there : (c : Term) (at : Place) (code : Code) (s : State) (on other : Going) → Quiet s → SameGoing on other → moved (ask c at code s on) ≡ ask c at code (there s) other
   ask_there c at code s on other q h = or_there (same c true_term) (is_quiet s) q (Step (on s)) _ (Step (other (there s))) _ (ap Step (h s q))
 
@@ -157,8 +167,15 @@ module _ (own : Option Own) where
   taken_there : (key : Chunk) (a : Term) (sort : Sort) (at : Place) (code : Code) (s : State) (on other : Chunk → State → Tree) → Quiet s → ((c : Chunk) → SameGoing (on c) (other c)) →
       moved (take_chunk key a sort at code s on) ≡ take_chunk key a sort at code (there s) other
   taken_there key a sort at code s on other q h =
-      first_there (holds_amount a key.arguments) (candidates key s.heap) at code s (λ c. on c.chunk (with_heap (reduced c a s.heap) s)) (λ c. other c.chunk (there (with_heap (reduced c a s.heap) s)))
-      (take_fresh key a sort at code s on) (take_fresh key a sort at code (there s) other) q (λ c. h c.chunk (with_heap (reduced c a s.heap) s) q) (end_there (is_quiet s) q _ _)
+      unsummed_there key.is_field (is_quiet s) q _ _ _ _
+      (first_there (holds_amount a key.arguments) (candidates key s.heap) at code s (λ c. on c.chunk (with_heap (reduced c a s.heap) s)) (λ c. other c.chunk (there (with_heap (reduced c a s.heap) s)))
+      (take_fresh key a sort at code s on) (take_fresh key a sort at code (there s) other) q (λ c. h c.chunk (with_heap (reduced c a s.heap) s) q) (end_there (is_quiet s) q _ _))
+
+  read_there : (f : Name) (r : Term) (sort : Sort) (at : Place) (s : State) (on other : Giving) → Quiet s → SameGiving on other → moved (read_field f r sort at s on) ≡ read_field f r sort at (there s) other
+  read_there f r sort at s on other q h =
+      quiet_there (is_quiet s) q _ _ _ _
+      (first_there (holds_some (r ∷ [])) (candidates (field_key f r) s.heap) at PermissionCode s (λ c. on c.chunk.value s) (λ c. other c.chunk.value (there s)) (never at PermissionCode s) (never at PermissionCode (there s)) q
+      (λ c. h c.chunk.value s q) (never_there at PermissionCode s q))
 
   -- The rules for the parts of others do so.
   module _ (p : Program) where
@@ -294,7 +311,7 @@ module _ (own : Option Own) where
             (ap Step (eval_there c s q _ _ (λ t s1 q1. ap Step (eval_there a s1 q1 _ _ (λ u s2 q2. ap Step (eval_there b s2 q2 _ _ (λ w s3 q3. ap Step (h (ite t u w) s3 q3))))))))
             (ap Step (eval_there c s q _ _ (λ t s1 q1. fork_there t s1 (λ s2. eval p o a s2 on) (λ s2. eval p o b s2 on) (λ s2. eval p o a s2 other) (λ s2. eval p o b s2 other) q1 (λ s2 q2. eval_there a s2 q2 on other h) (λ s2 q2. eval_there b s2 q2 on other h))))
         eval_there (Read at e f) s q on other h =
-            ap Step (eval_there e s q _ _ (λ r s1 q1. first_there (holds_some (r ∷ [])) (candidates (field_key f r) s1.heap) (placed s1 at) PermissionCode s1 (λ c. on c.chunk.value s1) (λ c. other c.chunk.value (there s1)) _ _ q1 (λ c. h c.chunk.value s1 q1) (never_there (placed s1 at) PermissionCode s1 q1)))
+            ap Step (eval_there e s q _ _ (λ r s1 q1. read_there f r (field_sort p f) (placed s1 at) s1 on other q1 h))
         eval_there (Old at e) s q on other h = ap Step (eval_there e (with_heap s.old s) q _ _ (λ t s1 q1. ap Step (h t (with_heap s.heap s1) q1)))
         eval_there (Apply at f es) s q on other h = ap Step (evals_there es s q _ _ (λ ts s1 q1. applied_there (placed s1 at) f ts s1 on other q1 h))
         eval_there (Unfolding at i es share e) s q on other h =

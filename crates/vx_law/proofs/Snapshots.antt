@@ -5,7 +5,7 @@ use Rattle.vx_terms.specs.Sorts.{SnapSort, Standard}
 use Rattle.vx_terms.specs.Terms.{Term, same}
 use Rattle.vx_terms.specs.Build.{pair, wrap, wrap_number, written_first, written_second, written_unwrap}
 use Rattle.vx_terms.specs.Formed.{Formed}
-use Rattle.vx_terms.specs.Interpretations.{Tree, Pair, Element, IntElement, BoolElement, RealElement, TreeElement, IsOf, as_sort, as_tree, Interpretation, value}
+use Rattle.vx_terms.specs.Interpretations.{Pair, Element, IntElement, BoolElement, RealElement, TreeElement, IsOf, as_sort, as_tree, Interpretation, value}
 use Rattle.vx_terms.proofs.Values.{value_of_sort}
 use Rattle.vx_rules.specs.States.{sort_of_type}
 use Rattle.vx_elements.proofs.Settled.{as_sort_same}

@@ -8,6 +8,7 @@ pub mod Speaks
 pub mod Mentions
 pub mod LiveSteps
 pub mod LiveChunks
+pub mod LiveSums
 pub mod LiveEvaluate
 pub mod LiveAssertions
 pub mod LiveParts

@@ -21,9 +21,9 @@ use Rattle.vx_smt_meaning.specs.Standard.{standard_symbols}
 use Rattle.vx_rules.specs.States as rules
 use Rattle.vx_rules.specs.States.{sort_of_type, Entry, joined_onto, new_entries, name_of, after_name}
 use Rattle.vx_rules.specs.Trees.{AssertCode, FunctionCode, MeasureCode, Tree, On, Step, Left, leaves}
-use Rattle.vx_rules.specs.Chunks.{instance_key}
+use Rattle.vx_rules.specs.Chunks.{instance_key, holds_some}
 use Rattle.vx_rules.specs.Groups.{is_in_group, function_number}
-use Rattle.vx_rules.specs.Rules.{Giving, Going, Context, Outer, outer, nowhere, never, holds_some, entered, back, gathered, terms, quietly, sides_of, with_body, with_promise, with_equations, lesser, decreasing, measured}
+use Rattle.vx_rules.specs.Rules.{Giving, Going, Context, Outer, outer, nowhere, never, entered, back, gathered, terms, quietly, sides_of, with_body, with_promise, with_equations, lesser, decreasing, measured}
 use Rattle.vx_types.specs.Typing.{Scope, HasType, IsTyped, IsTypedMeasure}
 use Rattle.vx_elements.proofs.Lists.{each_both}
 use Rattle.vx_elements.proofs.Scopes.{joined_typed, typed_longer}

@@ -21,7 +21,8 @@ use Rattle.vx_live.proofs.Over.{Sorts, Above, stays, above, Fine, fine_later, bu
 use Rattle.vx_live.proofs.Snapshots.{unit_fine, written_equal_fine, pair_fine, written_first_fine, written_second_fine, first_fine, second_fine, wrap_fine, written_unwrap_fine, unwrap_fine}
 use Rattle.vx_live.proofs.Shapes.{AllFine, arguments_of, parameters_of, HeapShape, Shaped, Later, heap_le, all_fine_later, with_chunks, fact_later, facts_later, fresh_later, Named, named}
 use Rattle.vx_live.proofs.LiveSteps.{Saying, LiveBy, Follows, FollowsWith, ask_live, fork_live}
-use Rattle.vx_live.proofs.LiveChunks.{put_live, take_live}
+use Rattle.vx_live.proofs.LiveChunks.{put_live}
+use Rattle.vx_live.proofs.LiveSums.{take_live}
 use Rattle.vx_live.proofs.LiveEvaluate.{PartsLive, eval_live, evals_live}
 
 -- Snapshots that something is produced with, where there is one

@@ -25,7 +25,7 @@ use Rattle.vx_live.proofs.Speaks.{Speaks, AllSpeak}
 use Rattle.vx_live.proofs.Over.{Sorts, stays, above, Fine, fine_later, truth_fine, number_fine, null_fine, part_fine, positive_fine, negate_fine, and_fine, or_fine, implies_fine, equals_fine, ite_fine, less_fine, less_equal_fine, add_fine, subtract_fine, multiply_fine, div_fine, modulo_fine}
 use Rattle.vx_live.proofs.Shapes.{AllFine, Shaped, with_chunks, found_formed}
 use Rattle.vx_live.proofs.LiveSteps.{Saying, LiveBy, Follows, FollowsWith, FollowsAll, live_case, ask_live, fork_live}
-use Rattle.vx_live.proofs.LiveChunks.{read_live}
+use Rattle.vx_live.proofs.LiveSums.{read_live}
 
 -- Operators
 
@@ -114,7 +114,7 @@ module _ {fs : List Declared} (P : Saying) (p : Program) (Held : Name → Type 0
     eval_live (part at n d l) k {s = s} on sh h = h (term.Part (lowest (over n d))) s stays sh (part_fine (lowest (over n d)) (lowest-lowest (over n d)))
     eval_live (reads {at = at} f {t = t} named te) k on sh h =
         eval_live te k _ sh (λ r s1 le sh1 g.
-        read_live P f r (placed s1 at) on sh1 g (λ u f2. h u s1 le sh1 (subst (λ a. Fine le.sorts s1.next u a) (sort_of_field p f ∙ ap sort_of_type (field_type_is p f named)) f2)))
+        read_live P f r (placed s1 at) on sh1 g (λ u s2 le2 sh2 f2. h u s2 (above le le2) sh2 (subst (λ a. Fine le2.sorts s2.next u a) (sort_of_field p f ∙ ap sort_of_type (field_type_is p f named)) f2)))
     eval_live (olds te) k {s = s} on sh h =
         eval_live te k {s = rules.with_heap s.old s} _ (with_chunks s.old stays sh.old sh) (λ t s1 le sh1 f. h t (rules.with_heap s.heap s1) le (with_chunks s.heap le sh.heap sh1) f)
     eval_live {scope = scope} (applies {at = at} f g named tes) k on sh h =

@@ -8,8 +8,8 @@ use Rattle.vx_terms.specs.Interpretations.{Each}
 use Rattle.vx_smt_meaning.specs.Commands.{Declared}
 use Rattle.vx_rules.specs.States as rules
 use Rattle.vx_rules.specs.Trees.{PostCode, MeasureCode}
-use Rattle.vx_rules.specs.Chunks.{instance_key}
-use Rattle.vx_rules.specs.Rules.{Outer, holds_some, never}
+use Rattle.vx_rules.specs.Chunks.{instance_key, holds_some}
+use Rattle.vx_rules.specs.Rules.{Outer, never}
 use Rattle.vx_rules.specs.Members.{codes, blank, rooted, function_body, from_measure, function_over}
 use Rattle.vx_types.specs.Typing.{IsTypedMeasure}
 use Rattle.vx_elements.proofs.Scopes.{joined_typed}

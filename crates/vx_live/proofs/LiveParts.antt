@@ -19,7 +19,8 @@ use Rattle.vx_live.proofs.Over.{Sorts, Above, above, Fine, fine_later, whole_fin
 use Rattle.vx_live.proofs.Shapes.{StoreShape, AllFine, all_fine_later, HeapShape, Shaped, shape_assign, store_le, heap_le, declared_all, named, entered_shape, back_shape}
 use Rattle.vx_live.proofs.Speaks.{Speaks, AllSpeak, SpeaksOf, joined_speaks, HasContract, Spoken}
 use Rattle.vx_live.proofs.LiveSteps.{Saying, LiveBy, Follows, FollowsWith, FollowsAll, never_live}
-use Rattle.vx_live.proofs.LiveChunks.{put_live, take_live}
+use Rattle.vx_live.proofs.LiveChunks.{put_live}
+use Rattle.vx_live.proofs.LiveSums.{take_live}
 use Rattle.vx_live.proofs.LiveEvaluate.{UnfoldsLive}
 use Rattle.vx_live.proofs.LiveAssertions.{SnapshotFine, instance_arguments}
 

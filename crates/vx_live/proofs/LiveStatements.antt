@@ -24,7 +24,8 @@ use Rattle.vx_live.proofs.Over.{Sorts, stays, above, Fine, fine_later, built_typ
 use Rattle.vx_live.proofs.Shapes.{StoreShape, Shaped, Later, found_formed, shape_take, shape_length, shape_assign, with_chunks, entry_shaped, fact_later, facts_later, fresh_later, named, named_all, declared}
 use Rattle.vx_live.proofs.Speaks.{joined_speaks, Says, AllSay}
 use Rattle.vx_live.proofs.LiveSteps.{Saying, LiveBy, Follows, ask_live, fork_live}
-use Rattle.vx_live.proofs.LiveChunks.{write_live, distinct_fine, put_all_live}
+use Rattle.vx_live.proofs.LiveChunks.{distinct_fine, put_all_live}
+use Rattle.vx_live.proofs.LiveSums.{write_live}
 use Rattle.vx_live.proofs.LiveEvaluate.{PartsLive, eval_live, evals_live}
 use Rattle.vx_live.proofs.LiveAssertions.{produce_live, consume_live}
 use Rattle.vx_live.proofs.LiveParts.{FoldsLive, CallsLive}

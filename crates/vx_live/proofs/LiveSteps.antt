@@ -1,5 +1,5 @@
 -- Steps that ask and fork are live where what follows is.
-use Rattle.std.proofs.Common.{ℕ, Bool, true, false, cond, ◌||◌, List, [], ◌∷◌}
+use Rattle.std.proofs.Common.{ℕ, Bool, true, false, cond, ◌||◌, List, [], ◌∷◌, Option, Some, None}
 use Rattle.vx_ast.specs.declared.Place.{Place}
 use Rattle.vx_ast.specs.Syntax.{Declaration, Program}
 use Rattle.vx_terms.specs.Sorts.{Sort, BoolSort}
@@ -9,11 +9,11 @@ use Rattle.vx_terms.specs.Interpretations.{Each}
 use Rattle.vx_smt_meaning.specs.Commands.{Declared}
 use Rattle.vx_rules.specs.States as rules
 use Rattle.vx_rules.specs.Trees.{Code, Tree, End, Impossible, On, Step, Ask, Probe, Fork, Left, leaves}
-use Rattle.vx_rules.specs.Chunks.{Candidate, candidates, only_inner}
-use Rattle.vx_rules.specs.Rules.{Giving, Going, GivingAll, question, ask, never, probe, fork, first_with}
+use Rattle.vx_rules.specs.Chunks.{Candidate, chosen, candidates, first_argument, surely, sum_at, only_inner}
+use Rattle.vx_rules.specs.Rules.{Giving, Going, GivingAll, question, ask, never, probe, fork, first_with, by_sum}
 use Rattle.vx_types.specs.Typing.{Scope}
 use Rattle.vx_elements.proofs.Lists.{each_append}
-use Rattle.vx_elements.proofs.Places.{IsPlace, candidates_places}
+use Rattle.vx_elements.proofs.Places.{IsPlace, candidates_places, matching_places}
 use Rattle.vx_live.specs.Live.{IsLive, AllLive}
 use Rattle.vx_live.proofs.Over.{Sorts, Above, stays, Fine, truth_fine, negate_fine}
 use Rattle.vx_live.proofs.Shapes.{AllFine, Shaped, path_terms_formed, path_terms_over, entry_shaped, fact_later}
@@ -115,6 +115,26 @@ first_of_live P {s = s} key wanted (d ∷ ds) at code on otherwise pl sh h k =
 pub first_live : {fs : List Declared} (P : Saying) {sorts : Sorts fs} {p : Program} {scope : Scope} {s : rules.State} (key : rules.Chunk) (wanted : rules.Chunk → Term) (at : Place) (code : Code) (on : Candidate → Tree) (otherwise : Tree) → Shaped p sorts scope s →
     ((d : Candidate) → IsPlace key s.heap d → Fine sorts s.next (wanted d.chunk) BoolSort × LiveBy fs P (on d)) → LiveBy fs P otherwise → LiveBy fs P (first_with wanted (candidates key s.heap) at code s on otherwise)
 first_live P {s = s} key wanted at code on otherwise sh h k = first_of_live P key wanted (candidates key s.heap) at code on otherwise (candidates_places key s.heap) sh h k
+
+-- what is surely as wanted is one of them
+surely_live : (fs : List Declared) (P : Saying) (key : rules.Chunk) (h : rules.Heap) (wanted : rules.Chunk → Term) (cs : List Candidate) (on : Candidate → Tree) (otherwise : Tree) → Each (IsPlace key h) cs →
+    ((d : Candidate) → IsPlace key h d → LiveBy fs P (on d)) → LiveBy fs P otherwise → LiveBy fs P (elim (surely wanted cs) as (λ o. Tree) [ Some c ↦ Step (on c) | None ↦ otherwise ])
+surely_live fs P key heap wanted [] on otherwise pl h k = k
+surely_live fs P key heap wanted (d ∷ ds) on otherwise pl h k = go (same (wanted d.chunk) true_term) (surely_live fs P key heap wanted ds on otherwise pl.1 h k)
+  where
+    chosen_tree : Option Candidate → Tree
+    chosen_tree None = otherwise
+    chosen_tree (Some c) = Step (on c)
+
+    go : (b : Bool) → LiveBy fs P (chosen_tree (surely wanted ds)) → LiveBy fs P (chosen_tree (cond b (Some d) (surely wanted ds)))
+    go true rest = h d pl.0
+    go false rest = rest
+
+-- an own chunk that is surely as wanted, else what is asked of the sum
+pub by_sum_live : {fs : List Declared} (P : Saying) {sorts : Sorts fs} {p : Program} {scope : Scope} {s : rules.State} (key : rules.Chunk) (wanted : rules.Chunk → Term) (asked : Term → Term) (at : Place) (code : Code) (on : Candidate → Tree) (summed : Going) → Shaped p sorts scope s →
+    Fine sorts s.next (asked (sum_at (first_argument key.arguments) (candidates key s.heap))) BoolSort → ((d : Candidate) → IsPlace key s.heap d → LiveBy fs P (on d)) → Follows P p sorts s.next scope summed → LiveBy fs P (by_sum wanted asked key at code s on summed)
+by_sum_live {fs = fs} P {s = s} key wanted asked at code on summed sh f h k =
+    surely_live fs P key s.heap wanted (chosen true key 0 s.heap) on _ (matching_places key s.heap) h (ask_live P (asked (sum_at (first_argument key.arguments) (candidates key s.heap))) at code summed sh f k)
 
 -- those from inside the root
 inner_places : (key : rules.Chunk) (h : rules.Heap) (cs : List Candidate) → Each (IsPlace key h) cs → Each (IsPlace key h) (only_inner cs)

@@ -1,6 +1,6 @@
 -- A quiet evaluation makes no symbol: the sides that it leaves have the next number and the level that it began with, and only
 -- further entries of the path.
-use Rattle.std.proofs.Common.{◌≡◌, ◌∙◌, refl, sym, ap, subst, pos, ℕ, zero, suc, Bool, true, false, cond, ◌&&◌, ◌||◌, List, [], ◌∷◌, ◌++◌, append_assoc, Option, Some, None}
+use Rattle.std.proofs.Common.{◌≡◌, ◌∙◌, refl, sym, ap, subst, pos, ℕ, zero, suc, Bool, true, false, not, cond, ◌&&◌, ◌||◌, List, [], ◌∷◌, ◌++◌, append_assoc, Option, Some, None}
 use Rattle.std.specs.Prelude.{nat_lt}
 use Rattle.vx_ast.specs.declared.Place.{Place}
 use Rattle.vx_ast.specs.Syntax.{Name, result_name, conjoined, Program, Function, Predicate, function_named, predicate_named, place_of, joined, Connective, And, Or, Implies, Expr, Number, Truth, Null, Part, Variable, Not, Operate, Divide, Connect, Choose, Read, Old, Apply, Unfolding, Exprs, NoMore, More, Assertion, Pure, Points, Instance, Both, Implied, Chosen}
@@ -13,9 +13,9 @@ use Rattle.vx_terms.specs.Interpretations.{Each}
 use Rattle.vx_rules.specs.States as rules
 use Rattle.vx_rules.specs.States.{State, Entry, Heap, Store, Chunk, is_quiet, with_heap, with_entry, with_fact, with_facts, with_branch, is_known, name_of, after_name}
 use Rattle.vx_rules.specs.Trees.{Code, AssertCode, AmountCode, DivisorCode, PermissionCode, UnfoldCode, FunctionCode, Tree, End, Impossible, On, Step, Ask, Probe, Fork, Left, leaves}
-use Rattle.vx_rules.specs.Chunks.{Candidate, candidates, chosen, put, put_over, field_facts, instance_facts, reduced, instance_key, field_key}
+use Rattle.vx_rules.specs.Chunks.{Candidate, candidates, chosen, holds_some, holds_amount, put, put_over, put_facts, reduced, instance_key, field_key}
 use Rattle.vx_rules.specs.Groups.{is_in_group, function_number}
-use Rattle.vx_rules.specs.Rules.{placed, terms, operated, divided, connected, Giving, Going, GivingAll, Context, Outer, outer, nowhere, ask, never, probe, fork, short, is_total, first_with, holds_some, holds_amount, take_fresh, take_chunk, read_field, field_sort, entered, back, with_built_wrap, with_built_pair, pair_facts, produced_value, after_value, produced_snapshot, after_snapshot, with_split, with_unit, decreasing, measured, applied, gathered, quietly, sides_of, with_body, with_promise, with_equations, unfolded, leads_inside, eval, evals, produce, consume}
+use Rattle.vx_rules.specs.Rules.{placed, terms, operated, divided, connected, Giving, Going, GivingAll, Context, Outer, outer, nowhere, ask, never, probe, fork, short, is_total, first_with, take_fresh, take_chunk, read_field, field_sort, entered, back, with_built_wrap, with_built_pair, pair_facts, produced_value, after_value, produced_snapshot, after_snapshot, with_split, with_unit, decreasing, measured, applied, gathered, quietly, sides_of, with_body, with_promise, with_equations, unfolded, leads_inside, eval, evals, produce, consume}
 use Rattle.vx_elements.proofs.Lists.{each_append}
 use Rattle.vx_live.specs.Quiet.{Still, QuietLaw}
 
@@ -68,7 +68,7 @@ pub put_still : (c : Chunk) (s : State) → Still s (put c s)
 put_still c s = go (same c.amount zero_amount)
   where
     facts : List Term
-    facts = cond c.is_field (field_facts s.bounded (chosen true c 0 s.heap) c s.heap) (instance_facts (chosen true c 0 s.heap) c)
+    facts = put_facts (not (is_quiet s)) s.bounded c s.heap
 
     held : State
     held = with_heap (put_over (chosen true c 0 s.heap) c s.heap) s
@@ -138,6 +138,11 @@ module _ (P : Term → State → Type 0) where
   quiet_case false true e x y h = h
   quiet_case false false e x y h = cc
 
+  quiet_otherwise : (a b : Bool) → b ≡ true → (x y : Tree) → LeftBy P y → LeftBy P (cond (a && not b) x y)
+  quiet_otherwise true true e x y h = h
+  quiet_otherwise true false e x y h = cc
+  quiet_otherwise false b e x y h = h
+
   quiet_end : (b : Bool) → b ≡ true → (x : Tree) → LeftBy P (cond b End x)
   quiet_end true e x = tt
   quiet_end false e x = cc
@@ -181,12 +186,14 @@ module _ (P : Term → State → Type 0) where
 
   pub take_left : (s : State) (key : Chunk) (a : Term) (sort : Sort) (at : Place) (code : Code) (on : Chunk → Going) → Quiet s → ((c : Chunk) → Follows s (on c)) → LeftBy P (take_chunk key a sort at code s on)
   take_left s key a sort at code on q h =
-      first_left s (holds_amount a key.arguments) (candidates key s.heap) at code (λ c. on c.chunk (with_heap (reduced c a s.heap) s)) (take_fresh key a sort at code s on) q
-      (λ c. h c.chunk (with_heap (reduced c a s.heap) s) (record { next = refl; level = refl; path = ([], append_nil s.path) })) (quiet_end (is_quiet s) q _)
+      quiet_otherwise key.is_field (is_quiet s) q _ _
+      (first_left s (holds_amount a key.arguments) (candidates key s.heap) at code (λ c. on c.chunk (with_heap (reduced c a s.heap) s)) (take_fresh key a sort at code s on) q
+      (λ c. h c.chunk (with_heap (reduced c a s.heap) s) (record { next = refl; level = refl; path = ([], append_nil s.path) })) (quiet_end (is_quiet s) q _))
 
-  pub read_left : (s : State) (f : Name) (r : Term) (at : Place) (on : Giving) → Quiet s → FollowsWith s on → LeftBy P (read_field f r at s on)
-  read_left s f r at on q h =
-      first_left s (holds_some (r ∷ [])) (candidates (field_key f r) s.heap) at PermissionCode (λ c. on c.chunk.value s) (never at PermissionCode s) q (λ c. h c.chunk.value s stays) (never_left s at PermissionCode q)
+  pub read_left : (s : State) (f : Name) (r : Term) (sort : Sort) (at : Place) (on : Giving) → Quiet s → FollowsWith s on → LeftBy P (read_field f r sort at s on)
+  read_left s f r sort at on q h =
+      quiet_case false (is_quiet s) q _ _
+      (first_left s (holds_some (r ∷ [])) (candidates (field_key f r) s.heap) at PermissionCode (λ c. on c.chunk.value s) (never at PermissionCode s) q (λ c. h c.chunk.value s stays) (never_left s at PermissionCode q))
 
   -- what is shown of rules for the parts of others
   pub record OuterLeft (o : Outer) : Type 0 where
@@ -310,7 +317,7 @@ module _ (P : Term → State → Type 0) where
           fork_left s1 t (λ s2. eval p o a s2 on) (λ s2. eval p o b s2 on)
           (λ s2 st2. eval_left a s2 on (still_quiet (after st st2) q) (λ u s3 st3. h u s3 (after st (after st2 st3))))
           (λ s2 st2. eval_left b s2 on (still_quiet (after st st2) q) (λ u s3 st3. h u s3 (after st (after st2 st3))))))
-      eval_left (Read at e f) s on q h = eval_left e s _ q (λ r s1 st. read_left s1 f r (placed s1 at) on (still_quiet st q) (λ u s2 st2. h u s2 (after st st2)))
+      eval_left (Read at e f) s on q h = eval_left e s _ q (λ r s1 st. read_left s1 f r (field_sort p f) (placed s1 at) on (still_quiet st q) (λ u s2 st2. h u s2 (after st st2)))
       eval_left (Old at e) s on q h = eval_left e (with_heap s.old s) _ q (λ t s1 st. h t (with_heap s.heap s1) (record { next = st.next; level = st.level; path = st.path }))
       eval_left (Apply at f es) s on q h = evals_left es s _ q (λ ts s1 st. applied_left s1 (placed s1 at) f ts on (still_quiet st q) (λ t s2 st2. h t s2 (after st st2)))
       eval_left (Unfolding at i es share e) s on q h =

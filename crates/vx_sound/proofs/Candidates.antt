@@ -12,8 +12,8 @@ use Rattle.vx_terms.specs.Interpretations.{Each, Interpretation, Element, as_fra
 use Rattle.vx_terms.specs.Formed.{truth}
 use Rattle.vx_rules.specs.States as rules
 use Rattle.vx_rules.specs.Trees.{Code, Tree}
-use Rattle.vx_rules.specs.Chunks.{Candidate, candidates, equal_onto, equal_arguments, first_argument, field_key, instance_key, only_inner}
-use Rattle.vx_rules.specs.Rules.{first_with, field_sort, holds_some, holds_amount}
+use Rattle.vx_rules.specs.Chunks.{Candidate, candidates, equal_onto, equal_arguments, first_argument, field_key, instance_key, only_inner, holds_some, holds_amount}
+use Rattle.vx_rules.specs.Rules.{first_with, field_sort}
 use Rattle.vx_types.specs.Typing.{Scope, HaveNoPerm}
 use Rattle.vx_ast.specs.declared.ValueType.TheVariants.{Perm}
 use Rattle.vx_amounts.proofs.Amounts.{Le, Positive}
@@ -140,6 +140,7 @@ module _ (means : Meaning) (world : World) where
   pub record Keyed (n : ℕ) (i : Interpretation) (heap : run.Heap) (r : run.Resource) (new : rules.Chunk) : Type 0 where
     pub chunk : ChunkStands means world n i heap new
     pub resource : resource_of i new ≡ r
+    pub receiver : new.is_field ≡ true → (k : ℕ) × (value i (first_argument new.arguments) ≡ element (RefValue k))
 
   pub keyed : {n : ℕ} {i : Interpretation} {heap : run.Heap} {key : rules.Chunk} {r : run.Resource} {b : Sort} → Keys n i key r b → (a t : Term) (inner : Bool) → Good means n i a RealSort → Le none (as_fraction (value i a)) → Good means n i t b →
       (key.is_field ≡ false → IsWritten t) → (Positive (as_fraction (value i a)) → IsThere p heap r (value i t)) → (inner ≡ true → InnerAt p world.marks heap r) → Keyed n i heap r (record key { amount = a; value = t; inner = inner })
@@ -156,6 +157,7 @@ module _ (means : Meaning) (world : World) where
       is_inner = λ e m. absurd (true≢false e);
     };
     resource = ap run.At at;
+    receiver = λ b. (k, e);
   }
     where
       at : location_of i (field_key f r) ≡ at_field k f
@@ -173,6 +175,7 @@ module _ (means : Meaning) (world : World) where
       is_inner = λ e m. subst (λ (us : List Value). IsInner p world.marks heap record { predicate = x; arguments = us }) (sym back) (marked m);
     };
     resource = ap (λ (us : List Value). let o : run.Instance = record { predicate = x; arguments = us } in run.Folded o) back;
+    receiver = λ b. absurd (true≢false (sym b));
   }
     where
       back : values_of i ts ≡ vs

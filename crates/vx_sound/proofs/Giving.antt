@@ -1,5 +1,5 @@
 -- What putting a fresh chunk, and locating and taking a permission, lead to.
-use Rattle.std.proofs.Common.{◌≡◌, ℕ, suc, pos, ◌≤◌, Bool, true, false, cond, ◌⊎◌, inl, inr, List, Some, refl, sym, ◌∙◌, ap, ap₂, subst, le_refl, le_trans, le_of_lt, lt-suc_self, true≢false}
+use Rattle.std.proofs.Common.{◌≡◌, ℕ, suc, pos, ◌≤◌, Bool, true, false, not, cond, ◌⊎◌, inl, inr, List, Some, refl, sym, ◌∙◌, ap, ap₂, subst, le_refl, le_trans, le_of_lt, lt-suc_self, true≢false}
 use Rattle.std.specs.Prelude.{Ok}
 use Rattle.vx_frac.specs.Fractions.{Fraction, none, full, at_most, sum, product}
 use Rattle.vx_ast.specs.declared.Place.{Place}
@@ -16,8 +16,8 @@ use Rattle.vx_terms.specs.Build.{equals, less_equal, multiply, zero_amount, whol
 use Rattle.vx_terms.specs.Interpretations.{Interpretation, Element, IntElement, TreeElement, Empty, as_fraction, IsOf, value, IsTrueIn}
 use Rattle.vx_rules.specs.States as rules
 use Rattle.vx_rules.specs.Trees.{Code, Tree, AmountCode}
-use Rattle.vx_rules.specs.Chunks.{field_key, Candidate, chosen, reduced, field_facts, instance_facts, put_over, put}
-use Rattle.vx_rules.specs.Rules.{Going, Outer, ask, placed, eval, evals, field_sort, holds_amount, leads_inside, take_fresh, take_chunk}
+use Rattle.vx_rules.specs.Chunks.{field_key, Candidate, chosen, reduced, put_over, put, candidates, holds_amount, put_facts}
+use Rattle.vx_rules.specs.Rules.{Going, Outer, ask, placed, eval, evals, field_sort, leads_inside, first_with, take_fresh, take_chunk}
 use Rattle.vx_types.specs.Typing.{Scope, HasType, HaveTypes}
 use Rattle.vx_sound.proofs.Marks.{InnerAt, LeadsAt}
 use Rattle.vx_sound.proofs.World.{at_field, World}
@@ -34,6 +34,7 @@ use Rattle.vx_sound.proofs.Stands.{amount_of, IsThere, content_sort, HeapStands,
 use Rattle.vx_elements.proofs.Values.{ref_value_is, perm_value_is, value_typed, sort_of_field}
 use Rattle.vx_sound.proofs.Chunks.{leads_at, resource_same, held_sign, taken_apart, chunk_held, reduced_stands, lowered_by_none}
 use Rattle.vx_sound.proofs.Candidates.{FirstWith, first_one, InstanceTerms, Keys, of_field, of_instance, keys_later, keys_typed, Keyed, keyed, good_amount, amount_is}
+use Rattle.vx_sound.proofs.SumTaken.{take_one as take_location}
 use Rattle.vx_sound.proofs.Puts.{stands_with_holdings, put_stands}
 use Rattle.vx_sound.proofs.Goes.{cleared_case, Goes, Evaluates, asked, good_fresh}
 use Rattle.vx_sound.proofs.Evaluate.{PartsGo, bind_ok, eval_goes, evals_goes}
@@ -73,12 +74,9 @@ module _ (means : Meaning) (world : World) where
   pub next_after_put : (new : rules.Chunk) (s : rules.State) → (put new s).next ≡ s.next
   next_after_put new s = go (same new.amount zero_amount)
     where
-      facts : List Term
-      facts = cond new.is_field (field_facts s.bounded (chosen true new 0 s.heap) new s.heap) (instance_facts (chosen true new 0 s.heap) new)
-
-      go : (b : Bool) → (let r : rules.State = cond b s (rules.with_facts (cond new.is_field (field_facts s.bounded (chosen true new 0 s.heap) new s.heap) (instance_facts (chosen true new 0 s.heap) new)) (rules.with_heap (put_over (chosen true new 0 s.heap) new s.heap) s)) in r.next) ≡ s.next
+      go : (b : Bool) → (let r : rules.State = cond b s (rules.with_facts (put_facts (not (rules.is_quiet s)) s.bounded new s.heap) (rules.with_heap (put_over (chosen true new 0 s.heap) new s.heap) s)) in r.next) ≡ s.next
       go true = refl
-      go false = next_after_facts means world facts (rules.with_heap (put_over (chosen true new 0 s.heap) new s.heap) s)
+      go false = next_after_facts means world (put_facts (not (rules.is_quiet s)) s.bounded new s.heap) (rules.with_heap (put_over (chosen true new 0 s.heap) new s.heap) s)
 
   -- a scale above none
   pub record ScaleStands (n : ℕ) (i : Interpretation) (scale : Term) (q : Fraction) : Type 0 where
@@ -385,10 +383,10 @@ module _ (means : Meaning) (world : World) where
       st' : Stands means world scope (with_symbol means g.interp g.state.next (IntElement (pos 0))) (rules.after_fresh g.state) c
       st' = stands_later means world (suc g.state.next) le ext g.stands
 
-  pub take_one : {scope : Scope} {i : Interpretation} {s : rules.State} {c : run.State} {key : rules.Chunk} {r : run.Resource} {b : Sort} (keys : Keys means world s.next i key r b) (a : Term) (q : Fraction) (at : Place) (code : Code) (on : rules.Chunk → Going) →
+  take_first : {scope : Scope} {i : Interpretation} {s : rules.State} {c : run.State} {key : rules.Chunk} {r : run.Resource} {b : Sort} (keys : Keys means world s.next i key r b) (a : Term) (q : Fraction) (at : Place) (code : Code) (on : rules.Chunk → Going) →
       Stands means world scope i s c → Good means s.next i a RealSort → Same (as_fraction (value i a)) q → Le none (as_fraction (value i a)) →
-      Cleared (take_chunk key a b at code s on) → Taken scope i s.next on c r b q
-  take_one {scope = scope} {i = i} {s = s} {c = c} {key = key} {r = r} {b = b} keys a q at code on st ga same_q sign h =
+      Cleared (first_with (holds_amount a key.arguments) (candidates key s.heap) at code s (λ d. on d.chunk (rules.with_heap (reduced d a s.heap) s)) (take_fresh key a b at code s on)) → Taken scope i s.next on c r b q
+  take_first {scope = scope} {i = i} {s = s} {c = c} {key = key} {r = r} {b = b} keys a q at code on st ga same_q sign h =
       go (first_one means world key (holds_amount a key.arguments) at code on_taken (take_fresh key a b at code s on) st (λ d kind resource m. good_amount means world keys d kind resource m ga) h)
     where
       on_taken : Candidate → Tree
@@ -425,3 +423,24 @@ module _ (means : Meaning) (world : World) where
           sort_is : {key : rules.Chunk} {r : run.Resource} {b : Sort} → Keys means world s.next i key r b → (d : rules.Chunk) → d.is_field ≡ key.is_field → d.resource ≡ key.resource → Good means s.next i d.value (content_sort p d.is_field d.resource) → Good means s.next i d.value b
           sort_is (of_field f r k g e) d kind resource h = subst (λ x. Good means s.next i d.value (field_sort p x)) resource (subst (λ b. Good means s.next i d.value (content_sort p b d.resource)) kind h)
           sort_is (of_instance x ts vs k) d kind resource h = subst (λ b. Good means s.next i d.value (content_sort p b d.resource)) kind h
+
+  pub take_one : {scope : Scope} {i : Interpretation} {s : rules.State} {c : run.State} {key : rules.Chunk} {r : run.Resource} {b : Sort} (keys : Keys means world s.next i key r b) (a : Term) (q : Fraction) (at : Place) (code : Code) (on : rules.Chunk → Going) →
+      Stands means world scope i s c → Good means s.next i a RealSort → Same (as_fraction (value i a)) q → Le none (as_fraction (value i a)) →
+      Cleared (take_chunk key a b at code s on) → Taken scope i s.next on c r b q
+  take_one (of_field f r k g e) a q at code on st ga same_q sign h =
+      let z = take_location means world f r k a q at code on st g e ga same_q sign h in
+      record {
+        interp = z.interp;
+        state = z.state;
+        chunk = z.chunk;
+        extends = z.extends;
+        later = z.later;
+        stands = z.stands;
+        enough = z.enough;
+        good = z.good;
+        written = λ e. absurd e;
+        there = z.there;
+        leads = λ e. tt;
+        cleared = z.cleared;
+      }
+  take_one (of_instance x ts vs k) a q at code on st ga same_q sign h = take_first (of_instance x ts vs k) a q at code on st ga same_q sign h

@@ -12,8 +12,8 @@ use Rattle.vx_terms.specs.Build.{equals}
 use Rattle.vx_terms.specs.Interpretations.{Interpretation}
 use Rattle.vx_rules.specs.States as rules
 use Rattle.vx_rules.specs.Trees.{MeasureCode}
-use Rattle.vx_rules.specs.Chunks.{Candidate, candidates, instance_key}
-use Rattle.vx_rules.specs.Rules.{Going, Outer, never, first_with, holds_some, gathered, quietly, sides_of, with_body, with_promise, with_equations}
+use Rattle.vx_rules.specs.Chunks.{Candidate, candidates, instance_key, holds_some}
+use Rattle.vx_rules.specs.Rules.{Going, Outer, never, first_with, gathered, quietly, sides_of, with_body, with_promise, with_equations}
 use Rattle.vx_rules.specs.Members.{rooted}
 use Rattle.vx_types.specs.Typing.{Scope}
 use Rattle.vx_amounts.proofs.Amounts.{Positive, positive-le}

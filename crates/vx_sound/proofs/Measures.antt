@@ -18,9 +18,9 @@ use Rattle.vx_terms.specs.Formed.{number, truth}
 use Rattle.vx_terms.proofs.Build.{less_value, less_equal_value}
 use Rattle.vx_rules.specs.States as rules
 use Rattle.vx_rules.specs.Trees.{AssertCode, MeasureCode, Code, Tree, Step}
-use Rattle.vx_rules.specs.Chunks.{Candidate, candidates, only_inner, instance_key}
+use Rattle.vx_rules.specs.Chunks.{Candidate, candidates, only_inner, instance_key, holds_some}
 use Rattle.vx_rules.specs.Groups.{is_in_group}
-use Rattle.vx_rules.specs.Rules.{Going, Giving, GivingAll, Outer, outer, nowhere, never, ask, first_with, holds_some, entered, back, lesser, decreasing, measured}
+use Rattle.vx_rules.specs.Rules.{Going, Giving, GivingAll, Outer, outer, nowhere, never, ask, first_with, entered, back, lesser, decreasing, measured}
 use Rattle.vx_types.specs.Typing.{Scope, IsTypedMeasure}
 use Rattle.vx_elements.proofs.Settled.{Meaning}
 use Rattle.vx_elements.proofs.Built.{Good, good_and, good_less, good_less_equal}

@@ -10,12 +10,12 @@ use Rattle.vx_meaning.specs.States as run
 use Rattle.vx_meaning.specs.Consistent.{Changes}
 use Rattle.vx_terms.specs.Sorts.{BoolSort, RealSort, RefSort}
 use Rattle.vx_terms.specs.Terms.{Term, same}
-use Rattle.vx_terms.specs.Build.{implies, equals, less, less_equal, add, null, zero_amount, whole_amount}
+use Rattle.vx_terms.specs.Build.{equals, less, less_equal, add, null, zero_amount, whole_amount}
 use Rattle.vx_terms.specs.Interpretations.{Each, Interpretation, Element, TreeElement, as_bool, as_fraction, value, IsTrueIn}
 use Rattle.vx_terms.proofs.Same.{term_is, and_parts, bool_is}
 use Rattle.vx_terms.proofs.Build.{ite_value}
 use Rattle.vx_rules.specs.States as rules
-use Rattle.vx_rules.specs.Chunks.{Candidate, is_kin, same_arguments, chosen, first_argument, merged, agree, is_not_null, apart, bounding, field_facts, instance_facts, put_over, put}
+use Rattle.vx_rules.specs.Chunks.{Candidate, is_kin, same_arguments, chosen, candidates, field_key, first_argument, sum_at, merged, agree, is_not_null, at_most_whole, one_value, with_other, apart, at_most_three, whole_fact, bounding, field_facts, instance_facts, put_over, put_facts, put}
 use Rattle.vx_rules.specs.Rules.{field_sort}
 use Rattle.vx_types.specs.Typing.{Scope}
 use Rattle.vx_elements.proofs.Settled.{Meaning}
@@ -31,6 +31,7 @@ use Rattle.vx_sound.proofs.Standard.{ite_written}
 use Rattle.vx_sound.proofs.Stands.{ref_of, values_of, location_of, instance_of, resource_of, amount_of, own, held, IsThere, content_sort, ChunkStands, HeapStands, Stands, chunk_typed, facts_stand}
 use Rattle.vx_sound.proofs.Chunks.{location_same, location_is, held_directly, resource_same, field_resource, own_itself, own_sign, held_sign, each_own, Apart, taken_apart, put_together}
 use Rattle.vx_sound.proofs.Candidates.{Keyed}
+use Rattle.vx_sound.proofs.Summed.{IsOf as OfField, parts, SumIs, sum_is, parts_below, candidates_are, candidates_by}
 
 pub type_same : (t : ValueType) → same_type t t ≡ true
 type_same type.Int = refl
@@ -64,11 +65,15 @@ read_elsewhere p l d v heap e =
     ap (λ b. cond (b && same_type (type_of v) (run.field_type p d.field)) v (run.find_value (run.field_type p d.field) heap d)) e
 
 -- arguments that are the same
-arguments_are : (ss ts : List Term) → same_arguments ss ts ≡ true → ss ≡ ts
+pub arguments_are : (ss ts : List Term) → same_arguments ss ts ≡ true → ss ≡ ts
 arguments_are [] [] e = refl
 arguments_are (s ∷ ss) (t ∷ ts) e = let q = and_parts (same s t) (same_arguments ss ts) e in ap₂ (λ (u : Term) (us : List Term). u ∷ us) (term_is s t q.0) (arguments_are ss ts q.1)
 arguments_are [] (t ∷ ts) e = absurd (true≢false (sym e))
 arguments_are (s ∷ ss) [] e = absurd (true≢false (sym e))
+
+-- a chunk is put, whether or not the facts speak of values
+abbrev pub put_saying : Bool → rules.Chunk → rules.State → rules.State
+put_saying summed new s = cond (same new.amount zero_amount) s (rules.with_facts (put_facts summed s.bounded new s.heap) (rules.with_heap (put_over (chosen true new 0 s.heap) new s.heap) s))
 
 module _ (means : Meaning) (world : World) where
   abbrev p : Program
@@ -80,7 +85,7 @@ module _ (means : Meaning) (world : World) where
   same_there heap (run.Folded o) typed d e h k = h.2 ∙ ap TreeElement (world.single heap o h.0 k.0 typed h.1 k.1) ∙ sym k.2
 
   -- with another heap, where what is there stays there
-  recontent : {n : ℕ} {i : Interpretation} {heap new : run.Heap} {c : rules.Chunk} → world.marks ≡ Unmarked → ChunkStands means world n i heap c →
+  pub recontent : {n : ℕ} {i : Interpretation} {heap new : run.Heap} {c : rules.Chunk} → world.marks ≡ Unmarked → ChunkStands means world n i heap c →
       (Positive (amount_of i c) → IsThere p heap (resource_of i c) (value i c.value) → IsThere p new (resource_of i c) (value i c.value)) → ChunkStands means world n i new c
   recontent {i = i} {heap = heap} {c = c} none k e = record {
     field = k.field;
@@ -192,39 +197,74 @@ module _ (means : Meaning) (world : World) where
     abbrev Fact : Term → Type 0
     Fact t = Good means n i t BoolSort × IsTrueIn i t
 
-    -- with each other chunk of the location at most the whole exists
-    apart_facts : (whole : rules.Chunk) → whole.is_field ≡ true → Good means n i (first_argument whole.arguments) RefSort → Good means n i whole.amount RealSort → (h : rules.Heap) → Each (ChunkStands means world n i heap) h →
-        Each (λ (d : rules.Chunk). same_arguments whole.arguments d.arguments ≡ false → Le (sum (amount_of i whole) (own i d (resource_of i whole))) full) h → Each Fact (apart whole h)
-    apart_facts whole kind gr ga [] st le = tt
-    apart_facts whole kind gr ga (d ∷ ds) st le = go (is_kin whole d && not (same_arguments whole.arguments d.arguments)) refl (apart_facts whole kind gr ga ds st.1 le.1)
+    bounding_facts : (b : Bool) (ts : List Term) → (b ≡ true → Each Fact ts) → Each Fact (bounding b ts)
+    bounding_facts true ts h = h refl
+    bounding_facts false ts h = tt
+
+    -- with each other chunk of the location at most the whole exists, and both have one value
+    apart_facts : (summed bounded : Bool) (whole : rules.Chunk) → whole.is_field ≡ true → ChunkStands means world n i heap whole → (h : rules.Heap) → Each (ChunkStands means world n i heap) h →
+        (bounded ≡ true → Each (λ (d : rules.Chunk). same_arguments whole.arguments d.arguments ≡ false → Le (sum (amount_of i whole) (own i d (resource_of i whole))) full) h) → Each Fact (apart summed bounded whole h)
+    apart_facts summed bounded whole kind w [] st le = tt
+    apart_facts summed bounded whole kind w (d ∷ ds) st le = go (is_kin whole d && not (same_arguments whole.arguments d.arguments)) refl (apart_facts summed bounded whole kind w ds st.1 (λ on. (le on).1))
       where
+        gr : Good means n i (first_argument whole.arguments) RefSort
+        gr = (w.field kind).receiver
+
         gb : Good means n i (less_equal (add whole.amount d.amount) whole_amount) BoolSort
-        gb = good_at_most means (good_sum means ga st.0.amount) (good_whole means)
+        gb = good_at_most means (good_sum means w.amount st.0.amount) (good_whole means)
 
         ge : d.is_field ≡ true → Good means n i (equals (first_argument d.arguments) (first_argument whole.arguments)) BoolSort
         ge f = good_equals means (st.0.field f).receiver gr
 
-        holds : d.is_field ≡ true → whole.resource ≡ d.resource → same_arguments whole.arguments d.arguments ≡ false → IsTrueIn i (equals (first_argument d.arguments) (first_argument whole.arguments)) → IsTrueIn i (less_equal (add whole.amount d.amount) whole_amount)
-        holds f e m t =
+        -- where the receivers are equal both are at one location
+        one_place : d.is_field ≡ true → whole.resource ≡ d.resource → value i (first_argument d.arguments) ≡ value i (first_argument whole.arguments) → resource_of i d ≡ resource_of i whole
+        one_place f e t =
             let at : location_of i d ≡ location_of i whole =
-            ap₂ (λ (r : ℕ) (f : Name). let l : run.Location = record { receiver = r; field = f } in l) (ap ref_of (equal_is i (first_argument d.arguments) (first_argument whole.arguments) t)) (sym e) in
-            let one : resource_of i d ≡ resource_of i whole = field_resource i d f ∙ ap run.At at ∙ sym (field_resource i whole kind) in
-            let own_is : own i d (resource_of i whole) ≡ amount_of i d = subst (λ x. own i d x ≡ amount_of i d) one (own_itself i d) in
-            le_true means whole_amount (good_sum means ga st.0.amount)
-            (le-trans (add_is means ga st.0.amount).there (subst (λ x. Le (sum (amount_of i whole) x) full) own_is (le.0 m)))
+            ap₂ (λ (r : ℕ) (f : Name). let l : run.Location = record { receiver = r; field = f } in l) (ap ref_of t) (sym e) in
+            field_resource i d f ∙ ap run.At at ∙ sym (field_resource i whole kind)
 
-        go : (b : Bool) → (is_kin whole d && not (same_arguments whole.arguments d.arguments)) ≡ b → Each Fact (apart whole ds) →
-            Each Fact (cond b (implies (equals (first_argument d.arguments) (first_argument whole.arguments)) (less_equal (add whole.amount d.amount) whole_amount) ∷ apart whole ds) (apart whole ds))
+        holds : bounded ≡ true → d.is_field ≡ true → whole.resource ≡ d.resource → same_arguments whole.arguments d.arguments ≡ false → IsTrueIn i (equals (first_argument d.arguments) (first_argument whole.arguments)) → IsTrueIn i (less_equal (add whole.amount d.amount) whole_amount)
+        holds on f e m t =
+            let one : resource_of i d ≡ resource_of i whole = one_place f e (equal_is i (first_argument d.arguments) (first_argument whole.arguments) t) in
+            let own_is : own i d (resource_of i whole) ≡ amount_of i d = subst (λ x. own i d x ≡ amount_of i d) one (own_itself i d) in
+            le_true means whole_amount (good_sum means w.amount st.0.amount)
+            (le-trans (add_is means w.amount st.0.amount).there (subst (λ x. Le (sum (amount_of i whole) x) full) own_is ((le on).0 m)))
+
+        value_fact : d.is_field ≡ true → whole.resource ≡ d.resource → Fact (one_value whole d)
+        value_fact f e =
+            let gs = good_equals means gr (st.0.field f).receiver in
+            let gw = good_positive means w.amount in
+            let gd = good_positive means st.0.amount in
+            let g2 = good_and means gs gw in
+            let gall = good_and means g2 gd in
+            let content : Good means n i d.value (content_sort p whole.is_field whole.resource) =
+            subst (λ b. Good means n i d.value (content_sort p b whole.resource)) (f ∙ sym kind) (subst (λ x. Good means n i d.value (content_sort p d.is_field x)) (sym e) st.0.content) in
+            let gv = good_equals means w.content content in (
+              good_implies means gall gv,
+              if_true means gall gv (λ h.
+                  let three = both_true means g2 gd h in
+                  let two = both_true means gs gw three.0 in
+                  let one : resource_of i d ≡ resource_of i whole = one_place f e (sym (equal_is i (first_argument whole.arguments) (first_argument d.arguments) two.0)) in
+                  is_equal i whole.value d.value (same_there heap (resource_of i whole) (chunk_typed means world w) (value i whole.value) (value i d.value)
+                  (w.content_is (true_positive means w.amount two.1)) (subst (λ r. IsThere p heap r (value i d.value)) one (st.0.content_is (true_positive means st.0.amount three.1))))),
+            )
+
+        of_values : (s : Bool) → d.is_field ≡ true → whole.resource ≡ d.resource → Each Fact (cond s (one_value whole d ∷ []) [])
+        of_values true f e = (value_fact f e, tt)
+        of_values false f e = tt
+
+        go : (b : Bool) → (is_kin whole d && not (same_arguments whole.arguments d.arguments)) ≡ b → Each Fact (apart summed bounded whole ds) →
+            Each Fact (cond b (with_other summed bounded whole d ++ apart summed bounded whole ds) (apart summed bounded whole ds))
         go true e r =
             let q = and_parts (is_kin whole d) (not (same_arguments whole.arguments d.arguments)) e in
             let kin = and_parts _ _ q.0 in
             let f : d.is_field ≡ true = sym (bool_is whole.is_field d.is_field kin.0) ∙ kind in
-            ((good_implies means (ge f) gb, if_true means (ge f) gb (holds f (name_is whole.resource d.resource kin.1) (not_false _ q.1))), r)
+            let x : whole.resource ≡ d.resource = name_is whole.resource d.resource kin.1 in
+            each_append Fact (with_other summed bounded whole d) (apart summed bounded whole ds)
+            (each_append Fact (bounding bounded (at_most_whole whole d ∷ [])) (cond summed (one_value whole d ∷ []) [])
+            (bounding_facts bounded (at_most_whole whole d ∷ []) (λ on. ((good_implies means (ge f) gb, if_true means (ge f) gb (holds on f x (not_false _ q.1))), tt)))
+            (of_values summed f x)) r
         go false e r = r
-
-    bounding_facts : (b : Bool) (ts : List Term) → (b ≡ true → Each Fact ts) → Each Fact (bounding b ts)
-    bounding_facts true ts h = h refl
-    bounding_facts false ts h = tt
 
     module _ (new : rules.Chunk) (k : ChunkStands means world n i heap new) (null_is : value i null ≡ element (RefValue 0)) where
       null_fact : new.is_field ≡ true → {bounded : Bool} (holdings : run.Holdings) → Limited bounded holdings → Le (amount_of i new) (run.amount holdings (resource_of i new)) → Fact (is_not_null new)
@@ -307,9 +347,9 @@ module _ (means : Meaning) (world : World) where
             go false h = h
 
       -- what is put, in the heap and in the holdings
-      pub record IsPut (bounded : Bool) (chunks after : rules.Heap) (q : Fraction) (holdings : run.Holdings) (matching : List Candidate) : Type 0 where
+      pub record IsPut (summed bounded : Bool) (chunks after : rules.Heap) (q : Fraction) (holdings : run.Holdings) (matching : List Candidate) : Type 0 where
         pub heap_stands : HeapStands means world n i after heap (run.gained (resource_of i new) q holdings)
-        pub field_hold : new.is_field ≡ true → Each Fact (field_facts bounded matching new chunks)
+        pub field_hold : new.is_field ≡ true → Each Fact (field_facts summed bounded matching new chunks)
         pub instance_hold : Each Fact (instance_facts matching new)
 
       new_held : (chunks : rules.Heap) (q : Fraction) (holdings : run.Holdings) → HeapStands means world n i chunks heap holdings → Same (amount_of i new) q →
@@ -319,9 +359,9 @@ module _ (means : Meaning) (world : World) where
           let sign : Le none (run.amount holdings r) = le-trans (held_sign means world n i heap chunks r st.each) (st.sums r) in
           subst (λ b. Le (amount_of i new) (cond b (sum q (run.amount holdings r)) (run.amount holdings r))) (sym (resource_same r)) (le-trans s.there (above-add q (run.amount holdings r) sign))
 
-      added : (chunks : rules.Heap) (q : Fraction) (holdings : run.Holdings) (bounded : Bool) → HeapStands means world n i chunks heap holdings → Same (amount_of i new) q → Limited bounded (run.gained (resource_of i new) q holdings) →
-          IsPut bounded chunks (chunks ++ new ∷ []) q holdings []
-      added chunks q holdings bounded st s b =
+      added : (chunks : rules.Heap) (q : Fraction) (holdings : run.Holdings) (summed bounded : Bool) → HeapStands means world n i chunks heap holdings → Same (amount_of i new) q → Limited bounded (run.gained (resource_of i new) q holdings) →
+          IsPut summed bounded chunks (chunks ++ new ∷ []) q holdings []
+      added chunks q holdings summed bounded st s b =
           let after = run.gained (resource_of i new) q holdings in
           let le = new_held chunks q holdings st s in
           record {
@@ -332,14 +372,13 @@ module _ (means : Meaning) (world : World) where
             };
             field_hold = λ kind. (
               null_fact kind after b le,
-              bounding_facts bounded (less_equal new.amount whole_amount ∷ apart new chunks) (λ on. (
-                amount_fact kind after b on le,
-                apart_facts new kind (k.field kind).receiver k.amount chunks st.each
-                    (each_both (λ (d : rules.Chunk). Le (own i d (resource_of i new)) (held i chunks (resource_of i new))) (λ (d : rules.Chunk). Le (own i d (resource_of i new)) (held i chunks (resource_of i new)))
-                    (λ (d : rules.Chunk). same_arguments new.arguments d.arguments ≡ false → Le (sum (amount_of i new) (own i d (resource_of i new))) full)
-                    (λ d le2 le3 e. le-trans (add-left (amount_of i new) le2) (le-trans (add-right (held i chunks (resource_of i new)) (le-is (sym (own_itself i new)))) (le-trans (sum_at (resource_of i new)) (most kind on))))
-                    chunks (each_own means world n i heap chunks (resource_of i new) st.each) (each_own means world n i heap chunks (resource_of i new) st.each)),
-              )),
+              each_append Fact (bounding bounded (less_equal new.amount whole_amount ∷ [])) (apart summed bounded new chunks)
+                  (bounding_facts bounded (less_equal new.amount whole_amount ∷ []) (λ on. (amount_fact kind after b on le, tt)))
+                  (apart_facts summed bounded new kind k chunks st.each
+                  (λ on. each_both (λ (d : rules.Chunk). Le (own i d (resource_of i new)) (held i chunks (resource_of i new))) (λ (d : rules.Chunk). Le (own i d (resource_of i new)) (held i chunks (resource_of i new)))
+                  (λ (d : rules.Chunk). same_arguments new.arguments d.arguments ≡ false → Le (sum (amount_of i new) (own i d (resource_of i new))) full)
+                  (λ d le2 le3 e. le-trans (add-left (amount_of i new) le2) (le-trans (add-right (held i chunks (resource_of i new)) (le-is (sym (own_itself i new)))) (le-trans (sum_at (resource_of i new)) (most kind on))))
+                  chunks (each_own means world n i heap chunks (resource_of i new) st.each) (each_own means world n i heap chunks (resource_of i new) st.each))),
             );
             instance_hold = tt;
           }
@@ -354,27 +393,29 @@ module _ (means : Meaning) (world : World) where
               go true = add-mono s.there (st.sums r)
               go false = le-trans (none-sum (held i chunks r)).there (st.sums r)
 
-      merges : (chunks : rules.Heap) (c : Candidate) (q : Fraction) (holdings : run.Holdings) (bounded : Bool) → IsPlace new chunks c → same_arguments new.arguments c.chunk.arguments ≡ true →
+      merges : (chunks : rules.Heap) (c : Candidate) (q : Fraction) (holdings : run.Holdings) (summed bounded : Bool) → IsPlace new chunks c → same_arguments new.arguments c.chunk.arguments ≡ true →
           HeapStands means world n i chunks heap holdings → Same (amount_of i new) q → Limited bounded (run.gained (resource_of i new) q holdings) → (more : List Candidate) →
-          IsPut bounded chunks (slice_set chunks c.number (merged new c.chunk)) q holdings (c ∷ more)
-      merges chunks c q holdings bounded pl same_args st s b more =
+          IsPut summed bounded chunks (slice_set chunks c.number (merged new c.chunk)) q holdings (c ∷ more)
+      merges chunks c q holdings summed bounded pl same_args st s b more =
           record {
             heap_stands =
                 subst (λ x. HeapStands means world n i x heap (run.gained (resource_of i new) q holdings)) (sym (pl.set_is (merged new c.chunk)))
                 (put_together means world n i heap pl.front (merged new c.chunk) pl.back record { chunk = whole_stands; others = a.others; sums = sum_at });
             field_hold = λ kind. (
               null_fact kind after b le,
-              each_append Fact (bounding bounded (less_equal new.amount whole_amount ∷ [])) (agree new c.chunk ∷ bounding bounded (less_equal (merged new c.chunk).amount whole_amount ∷ apart (merged new c.chunk) chunks))
+              each_append Fact (bounding bounded (less_equal new.amount whole_amount ∷ [])) (agree new c.chunk ∷ (bounding bounded (less_equal (merged new c.chunk).amount whole_amount ∷ []) ++ apart summed bounded (merged new c.chunk) chunks))
                   (bounding_facts bounded (less_equal new.amount whole_amount ∷ []) (λ on. (amount_fact kind after b on le, tt))) (
                     agree_fact c.chunk a.chunk pl.kind pl.resource same_args,
-                    bounding_facts bounded (less_equal (merged new c.chunk).amount whole_amount ∷ apart (merged new c.chunk) chunks) (λ on. (
-                      (good_at_most means whole_stands.amount (good_whole means), le_true means whole_amount whole_stands.amount (le-trans (above-add (amount_of i (merged new c.chunk)) (held i (pl.front ++ pl.back) (resource_of i c.chunk)) (held_sign means world n i heap (pl.front ++ pl.back) (resource_of i c.chunk) a.others)) (whole_sum kind on))),
-                      apart_facts (merged new c.chunk) (pl.kind ∙ kind) (whole_stands.field (pl.kind ∙ kind)).receiver whole_stands.amount chunks st.each
-                          (subst (Each Apart') (sym pl.is) (each_in Apart' pl.front pl.back here_same
-                          (each_both (λ (d : rules.Chunk). Le (own i d (resource_of i c.chunk)) (held i (pl.front ++ pl.back) (resource_of i c.chunk))) (λ (d : rules.Chunk). Le (own i d (resource_of i c.chunk)) (held i (pl.front ++ pl.back) (resource_of i c.chunk))) Apart'
-                          (λ d le2 le3 e. le-trans (add-left (amount_of i (merged new c.chunk)) le2) (whole_sum kind on)) (pl.front ++ pl.back)
-                          (each_own means world n i heap (pl.front ++ pl.back) (resource_of i c.chunk) a.others) (each_own means world n i heap (pl.front ++ pl.back) (resource_of i c.chunk) a.others)))),
-                    )),
+                    each_append Fact (bounding bounded (less_equal (merged new c.chunk).amount whole_amount ∷ [])) (apart summed bounded (merged new c.chunk) chunks)
+                        (bounding_facts bounded (less_equal (merged new c.chunk).amount whole_amount ∷ []) (λ on. (
+                          (good_at_most means whole_stands.amount (good_whole means), le_true means whole_amount whole_stands.amount (le-trans (above-add (amount_of i (merged new c.chunk)) (held i (pl.front ++ pl.back) (resource_of i c.chunk)) (held_sign means world n i heap (pl.front ++ pl.back) (resource_of i c.chunk) a.others)) (whole_sum kind on))),
+                          tt,
+                        )))
+                        (apart_facts summed bounded (merged new c.chunk) (pl.kind ∙ kind) whole_stands chunks st.each
+                        (λ on. subst (Each Apart') (sym pl.is) (each_in Apart' pl.front pl.back here_same
+                        (each_both (λ (d : rules.Chunk). Le (own i d (resource_of i c.chunk)) (held i (pl.front ++ pl.back) (resource_of i c.chunk))) (λ (d : rules.Chunk). Le (own i d (resource_of i c.chunk)) (held i (pl.front ++ pl.back) (resource_of i c.chunk))) Apart'
+                        (λ d le2 le3 e. le-trans (add-left (amount_of i (merged new c.chunk)) le2) (whole_sum kind on)) (pl.front ++ pl.back)
+                        (each_own means world n i heap (pl.front ++ pl.back) (resource_of i c.chunk) a.others) (each_own means world n i heap (pl.front ++ pl.back) (resource_of i c.chunk) a.others))))),
                   ),
             );
             instance_hold = (agree_fact c.chunk a.chunk pl.kind pl.resource same_args, tt);
@@ -412,41 +453,70 @@ module _ (means : Meaning) (world : World) where
           here_same : same_arguments c.chunk.arguments c.chunk.arguments ≡ false → Le (sum (amount_of i (merged new c.chunk)) (own i c.chunk (resource_of i c.chunk))) full
           here_same e = absurd (true≢false (sym (subst (λ (ts : List Term). same_arguments ts c.chunk.arguments ≡ true) (arguments_are new.arguments c.chunk.arguments same_args) same_args) ∙ e))
 
-      pub is_put : (chunks : rules.Heap) (q : Fraction) (holdings : run.Holdings) (bounded : Bool) → HeapStands means world n i chunks heap holdings → Same (amount_of i new) q → Limited bounded (run.gained (resource_of i new) q holdings) →
-          IsPut bounded chunks (put_over (chosen true new 0 chunks) new chunks) q holdings (chosen true new 0 chunks)
-      is_put chunks q holdings bounded st s b = go (chosen true new 0 chunks) (matching_places new chunks) (matching_same new chunks 0)
+      pub is_put : (chunks : rules.Heap) (q : Fraction) (holdings : run.Holdings) (summed bounded : Bool) → HeapStands means world n i chunks heap holdings → Same (amount_of i new) q → Limited bounded (run.gained (resource_of i new) q holdings) →
+          IsPut summed bounded chunks (put_over (chosen true new 0 chunks) new chunks) q holdings (chosen true new 0 chunks)
+      is_put chunks q holdings summed bounded st s b = go (chosen true new 0 chunks) (matching_places new chunks) (matching_same new chunks 0)
         where
           go : (cs : List Candidate) → Each (IsPlace new chunks) cs → Each (λ (c : Candidate). same_arguments new.arguments c.chunk.arguments ≡ true) cs →
-              IsPut bounded chunks (put_over cs new chunks) q holdings cs
-          go [] pl e = added chunks q holdings bounded st s b
-          go (c ∷ cs) pl e = merges chunks c q holdings bounded pl.0 e.0 st s b cs
+              IsPut summed bounded chunks (put_over cs new chunks) q holdings cs
+          go [] pl e = added chunks q holdings summed bounded st s b
+          go (c ∷ cs) pl e = merges chunks c q holdings summed bounded pl.0 e.0 st s b cs
 
   -- the whole state
   pub stands_with_holdings : {scope : Scope} {i : Interpretation} {s : rules.State} {c : run.State} (chunks : rules.Heap) (holdings : run.Holdings) → Stands means world scope i s c → HeapStands means world s.next i chunks c.heap holdings →
       world.Holds c.heap holdings → Stands means world scope i (rules.with_heap chunks s) (run.with_holdings holdings c)
   stands_with_holdings chunks holdings st h b = record { store = st.store; path = st.path; heap = h; old = st.old; awake = st.awake; bounded = st.bounded; null = st.null; standard = st.standard; owned = st.owned; marked = st.marked; holds = b; old_holds = st.old_holds }
 
-  pub put_stands : {scope : Scope} {i : Interpretation} {s : rules.State} {c : run.State} (new : rules.Chunk) (r : run.Resource) (q : Fraction) → Stands means world scope i s c → Keyed means world s.next i c.heap r new →
+  pub saying_stands : {scope : Scope} {i : Interpretation} {s : rules.State} {c : run.State} (summed : Bool) (new : rules.Chunk) (r : run.Resource) (q : Fraction) → Stands means world scope i s c → Keyed means world s.next i c.heap r new →
       Same (amount_of i new) q → world.Holds c.heap (run.gained r q c.holdings) →
-      Stands means world scope i (put new s) (run.with_holdings (run.gained r q c.holdings) c)
-  put_stands {scope = scope} {i = i} {s = s} {c = c} new r q st key same_q b = go (same new.amount zero_amount) refl
+      Stands means world scope i (put_saying summed new s) (run.with_holdings (run.gained r q c.holdings) c)
+  saying_stands {scope = scope} {i = i} {s = s} {c = c} summed new r q st key same_q b = go (same new.amount zero_amount) refl
     where
       limits : Limited s.bounded (run.gained (resource_of i new) q c.holdings)
       limits = subst (λ x. Limited x (run.gained (resource_of i new) q c.holdings)) (sym st.bounded) (subst (λ y. Limited world.bounded (run.gained y q c.holdings)) (sym key.resource) (world.limited c.heap (run.gained r q c.holdings) b))
 
-      is : IsPut s.next i c.heap new key.chunk st.null s.bounded s.heap (put_over (chosen true new 0 s.heap) new s.heap) q c.holdings (chosen true new 0 s.heap)
-      is = is_put s.next i c.heap new key.chunk st.null s.heap q c.holdings s.bounded st.heap same_q limits
+      is : IsPut s.next i c.heap new key.chunk st.null summed s.bounded s.heap (put_over (chosen true new 0 s.heap) new s.heap) q c.holdings (chosen true new 0 s.heap)
+      is = is_put s.next i c.heap new key.chunk st.null s.heap q c.holdings summed s.bounded st.heap same_q limits
 
       with_more : Stands means world scope i (rules.with_heap (put_over (chosen true new 0 s.heap) new s.heap) s) (run.with_holdings (run.gained r q c.holdings) c)
       with_more = stands_with_holdings (put_over (chosen true new 0 s.heap) new s.heap) (run.gained r q c.holdings) st
           (subst (λ y. HeapStands means world s.next i (put_over (chosen true new 0 s.heap) new s.heap) c.heap (run.gained y q c.holdings)) key.resource is.heap_stands) b
 
-      facts_by : (x : Bool) → new.is_field ≡ x → Each (Fact s.next i c.heap) (cond x (field_facts s.bounded (chosen true new 0 s.heap) new s.heap) (instance_facts (chosen true new 0 s.heap) new))
-      facts_by true e = is.field_hold e
+      -- the sum of the chunks of the location is at most the whole
+      sum_fact : new.is_field ≡ true → s.bounded ≡ true → Each (Fact s.next i c.heap) (whole_fact new (put_over (chosen true new 0 s.heap) new s.heap))
+      sum_fact kind on = subst (λ (cs : List Candidate). Each (Fact s.next i c.heap) (at_most_three (first_argument new.arguments) cs)) (sym same_key)
+          (of_three (candidates (field_key new.resource (first_argument new.arguments)) (put_over (chosen true new 0 s.heap) new s.heap)) of_sum.good below)
+        where
+          same_key : candidates new (put_over (chosen true new 0 s.heap) new s.heap) ≡ candidates (field_key new.resource (first_argument new.arguments)) (put_over (chosen true new 0 s.heap) new s.heap)
+          same_key = candidates_by new (field_key new.resource (first_argument new.arguments)) (put_over (chosen true new 0 s.heap) new s.heap) kind refl (key.chunk.field kind).single
+
+          of_one : Each (λ (d : Candidate). OfField means world s.next i c.heap new.resource d.chunk) (candidates (field_key new.resource (first_argument new.arguments)) (put_over (chosen true new 0 s.heap) new s.heap))
+          of_one = candidates_are means world s.next i c.heap new.resource (first_argument new.arguments) (key.receiver kind).0 (key.chunk.field kind).receiver (key.receiver kind).1 (put_over (chosen true new 0 s.heap) new s.heap) is.heap_stands.each
+
+          of_sum : SumIs means world s.next i c.heap new.resource (first_argument new.arguments) (key.receiver kind).0 (key.chunk.field kind).receiver (key.receiver kind).1
+              (sum_at (first_argument new.arguments) (candidates (field_key new.resource (first_argument new.arguments)) (put_over (chosen true new 0 s.heap) new s.heap)))
+              (parts means world s.next i c.heap new.resource (first_argument new.arguments) (key.receiver kind).0 (key.chunk.field kind).receiver (key.receiver kind).1 (candidates (field_key new.resource (first_argument new.arguments)) (put_over (chosen true new 0 s.heap) new s.heap)))
+          of_sum = sum_is means world s.next i c.heap new.resource (first_argument new.arguments) (key.receiver kind).0 (key.chunk.field kind).receiver (key.receiver kind).1 (candidates (field_key new.resource (first_argument new.arguments)) (put_over (chosen true new 0 s.heap) new s.heap)) of_one
+
+          below : Le (as_fraction (value i (sum_at (first_argument new.arguments) (candidates (field_key new.resource (first_argument new.arguments)) (put_over (chosen true new 0 s.heap) new s.heap))))) full
+          below =
+              le-trans of_sum.is.there
+              (le-trans (parts_below means world s.next i c.heap new.resource (first_argument new.arguments) (key.receiver kind).0 (key.chunk.field kind).receiver (key.receiver kind).1 (put_over (chosen true new 0 s.heap) new s.heap) is.heap_stands.each)
+              (le-trans (is.heap_stands.sums (run.At (at_field (key.receiver kind).0 new.resource))) (limits.most on (at_field (key.receiver kind).0 new.resource))))
+
+          of_three : (cs : List Candidate) → Good means s.next i (sum_at (first_argument new.arguments) cs) RealSort → Le (as_fraction (value i (sum_at (first_argument new.arguments) cs))) full → Each (Fact s.next i c.heap) (at_most_three (first_argument new.arguments) cs)
+          of_three [] g le = tt
+          of_three (x ∷ []) g le = tt
+          of_three (x ∷ y ∷ []) g le = tt
+          of_three (x ∷ y ∷ z ∷ cs) g le = ((good_at_most means g (good_whole means), le_true means whole_amount g le), tt)
+
+      facts_by : (x : Bool) → new.is_field ≡ x → Each (Fact s.next i c.heap) (cond x (field_facts summed s.bounded (chosen true new 0 s.heap) new s.heap ++ bounding (summed && s.bounded) (whole_fact new (put_over (chosen true new 0 s.heap) new s.heap))) (instance_facts (chosen true new 0 s.heap) new))
+      facts_by true e = each_append (Fact s.next i c.heap) (field_facts summed s.bounded (chosen true new 0 s.heap) new s.heap) (bounding (summed && s.bounded) (whole_fact new (put_over (chosen true new 0 s.heap) new s.heap)))
+          (is.field_hold e) (bounding_facts s.next i c.heap (summed && s.bounded) (whole_fact new (put_over (chosen true new 0 s.heap) new s.heap)) (λ on. sum_fact e (and_parts summed s.bounded on).1))
       facts_by false e = is.instance_hold
 
       go : (x : Bool) → same new.amount zero_amount ≡ x →
-          Stands means world scope i (cond x s (rules.with_facts (cond new.is_field (field_facts s.bounded (chosen true new 0 s.heap) new s.heap) (instance_facts (chosen true new 0 s.heap) new)) (rules.with_heap (put_over (chosen true new 0 s.heap) new s.heap) s)))
+          Stands means world scope i (cond x s (rules.with_facts (put_facts summed s.bounded new s.heap) (rules.with_heap (put_over (chosen true new 0 s.heap) new s.heap) s)))
           (run.with_holdings (run.gained r q c.holdings) c)
       go true e =
           let z : Le none q = subst (λ t. Le (as_fraction (value i t)) q) (term_is new.amount zero_amount e) same_q.there in
@@ -455,5 +525,9 @@ module _ (means : Meaning) (world : World) where
           more : Le none q → (l : run.Resource) (x : Bool) → Le (run.amount c.holdings l) (cond x (sum q (run.amount c.holdings l)) (run.amount c.holdings l))
           more z l true = below-add (run.amount c.holdings l) z
           more z l false = le-refl _
-      go false e =
-          facts_stand means world (cond new.is_field (field_facts s.bounded (chosen true new 0 s.heap) new s.heap) (instance_facts (chosen true new 0 s.heap) new)) (rules.with_heap (put_over (chosen true new 0 s.heap) new s.heap) s) with_more (facts_by new.is_field refl)
+      go false e = facts_stand means world (put_facts summed s.bounded new s.heap) (rules.with_heap (put_over (chosen true new 0 s.heap) new s.heap) s) with_more (facts_by new.is_field refl)
+
+  pub put_stands : {scope : Scope} {i : Interpretation} {s : rules.State} {c : run.State} (new : rules.Chunk) (r : run.Resource) (q : Fraction) → Stands means world scope i s c → Keyed means world s.next i c.heap r new →
+      Same (amount_of i new) q → world.Holds c.heap (run.gained r q c.holdings) →
+      Stands means world scope i (put new s) (run.with_holdings (run.gained r q c.holdings) c)
+  put_stands {s = s} new r q st key same_q b = saying_stands (not (rules.is_quiet s)) new r q st key same_q b

@@ -1,5 +1,5 @@
 -- No run of a cleared statement fails, and what follows one that ends is cleared at its state.
-use Rattle.std.proofs.Common.{◌≡◌, ℕ, Bool, true, false, not, cond, ◌⊎◌, inl, inr, List, [], ◌∷◌, ◌++◌, length, take, slice_set, Some, None, sym, ◌∙◌, ap, subst, le_refl, le_trans}
+use Rattle.std.proofs.Common.{◌≡◌, ℕ, ◌≤◌, Bool, true, false, not, cond, ◌⊎◌, inl, inr, List, [], ◌∷◌, ◌++◌, length, take, slice_set, Option, Some, None, refl, sym, ◌∙◌, ap, subst, le_refl, le_trans}
 use Rattle.std.specs.Prelude.{Ok}
 use Rattle.std.proofs.Math.Seq.{take-append_seam}
 use Rattle.vx_frac.specs.Fractions.{none, full, at_most}
@@ -16,14 +16,16 @@ use Rattle.vx_meaning.specs.Give.{when, side, give}
 use Rattle.vx_meaning.specs.Run as meaning
 use Rattle.vx_terms.specs.Sorts.{RealSort, RefSort}
 use Rattle.vx_terms.specs.Terms.{Term}
-use Rattle.vx_terms.specs.Build.{negate, whole_amount}
+use Rattle.vx_terms.specs.Build.{true_term, negate, less_equal, whole_amount}
 use Rattle.vx_terms.proofs.Build.{negate_value}
-use Rattle.vx_terms.specs.Interpretations.{Interpretation, as_bool, value}
+use Rattle.vx_terms.proofs.Same.{term_is}
+use Rattle.vx_terms.specs.Interpretations.{Interpretation, as_bool, value, IsTrueIn}
 use Rattle.vx_rules.specs.States as rules
 use Rattle.vx_rules.specs.States.{sort_of_type}
 use Rattle.vx_rules.specs.Trees.{AssertCode, PermissionCode, CallCode, EntryCode, KeptCode, Tree, End, Step, Fork}
-use Rattle.vx_rules.specs.Chunks.{field_key, Candidate}
-use Rattle.vx_rules.specs.Rules.{Giving, GivingAll, Going, Outer, never, fork, holds_amount, write_field, field_sort, eval, produce, consume, unfolded}
+use Rattle.vx_rules.specs.Chunks.{field_key, Candidate, holds_amount, chosen, candidates, surely, sum_at, written_each}
+use Rattle.vx_rules.specs.Chunks as chunk
+use Rattle.vx_rules.specs.Rules.{Giving, GivingAll, Going, Outer, never, fork, write_field, field_sort, eval, produce, consume, unfolded}
 use Rattle.vx_rules.specs.Rules as rule
 use Rattle.vx_rules.specs.Members.{codes, forget, names_of, after_names, called, folded, exec, exec_all}
 use Rattle.vx_types.specs.Typing.{Scope, AreOnce, IsTyped, IsTypedStmt, IsTypedBlock, scope_after, scope_after_all}
@@ -37,15 +39,20 @@ use Rattle.vx_elements.proofs.Settled.{Meaning, Extends, extends-refl, extends-t
 use Rattle.vx_elements.proofs.Built.{Good, good_later, good_negate}
 use Rattle.vx_elements.proofs.Elements.{element}
 use Rattle.vx_elements.proofs.Eventually.{both_eventually, one_answer}
-use Rattle.vx_amounts.proofs.Amounts.{Le, le-refl, le-trans}
-use Rattle.vx_elements.proofs.Truth.{good_whole}
+use Rattle.vx_amounts.proofs.Amounts.{Le, le-refl, le-trans, le-is, not-positive, full-positive}
+use Rattle.vx_elements.proofs.Truth.{good_whole, true_le, good_at_most}
 use Rattle.vx_sound.proofs.Stands.{location_of, resource_of, amount_of, resource_kept, amount_kept, StoreStands, HeapStands, Stands, stands_with_store, heap_later, store_take, store_lengths, store_assign, stands_entry, unowned}
 use Rattle.vx_elements.proofs.Values.{ref_value_is, sort_of_field, field_type_is}
-use Rattle.vx_elements.proofs.Places.{IsPlace}
+use Rattle.vx_elements.proofs.Places.{IsPlace, matching_places}
 use Rattle.vx_sound.proofs.Chunks.{field_resource, Apart, taken_apart, chunk_held}
-use Rattle.vx_sound.proofs.Puts.{heap_changed, written_stands}
-use Rattle.vx_sound.proofs.Candidates.{FirstWith, first_one, of_field, good_amount, amount_is}
-use Rattle.vx_sound.proofs.Goes.{Goes, Evaluates, here, goes_after, reached, stuck, forked, declared, Named, named}
+use Rattle.vx_sound.proofs.SumReads.{surely_is}
+use Rattle.vx_sound.proofs.Summed.{sum_is, parts_below, candidates_are}
+use Rattle.vx_sound.proofs.SumTaken.{AskedAt, asked_at}
+use Rattle.vx_sound.proofs.Slots.{candidates_stand, candidates_differ}
+use Rattle.vx_sound.proofs.SumWrites.{Among, kin_among, held_each, start_at, all_written}
+use Rattle.vx_sound.proofs.Puts.{heap_changed, written_stands, all_held}
+use Rattle.vx_sound.proofs.Candidates.{of_field, amount_is}
+use Rattle.vx_sound.proofs.Goes.{Goes, Evaluates, here, goes_after, reached, forked, declared, Named, named}
 use Rattle.vx_sound.proofs.Evaluate.{PartsGo, bind_ok, eval_goes, EvaluatesAll, evals_goes}
 use Rattle.vx_sound.proofs.Giving.{whole_scale}
 use Rattle.vx_sound.proofs.Assertions.{by_side, Leaves, leaves_after, ends_leaves, stops_leaves, then_leaves, refused_leaves, stands_at, pure_goes, is_true_of, give_goes, Consumes, consumed}
@@ -227,17 +234,41 @@ module _ (means : Meaning) (world : World) where
 
     -- Writing
 
-    record WroteAt (f : Name) (k : ℕ) (r : Term) (t : Term) (i : Interpretation) (s : rules.State) (on : Going) : Type 0 where
-      pub candidate : Candidate
-      pub place : IsPlace (field_key f r) s.heap candidate
-      pub location_is : location_of i candidate.chunk ≡ at_field k f
-      pub whole : Le full (amount_of i candidate.chunk)
-      pub cleared : Cleared (on (rule.written candidate t s))
+    -- the state behind a write, of a location that is held whole
+    record WroteAt (scope : Scope) (f : Name) (k : ℕ) (v : Value) (i : Interpretation) (n : ℕ) (c : run.State) (on : Going) : Type 0 where
+      pub interp : Interpretation
+      pub state : rules.State
+      pub extends : Extends means n i interp
+      pub later : n ≤ state.next
+      pub stands : Stands means world scope interp state (run.with_heap ((at_field k f, v) ∷ c.heap) c)
+      pub enough : Le full (run.amount c.holdings (run.At (at_field k f)))
+      pub cleared : Cleared (on state)
 
-    write_one : {scope : Scope} {i : Interpretation} {s : rules.State} {c : run.State} (f : Name) (r t : Term) (k : ℕ) (at : Place) (on : Going) →
-        Stands means world scope i s c → Good means s.next i r RefSort → value i r ≡ element (RefValue k) → Cleared (write_field f r t at s on) → WroteAt f k r t i s on
-    write_one {i = i} {s = s} {c = c} f r t k at on st g e h =
-        go (first_one means world (field_key f r) (holds_amount whole_amount (r ∷ [])) at PermissionCode (λ d. on (rule.written d t s)) (never at PermissionCode s) st (λ d kind resource m. good_amount means world (of_field f r k g e) d kind resource m gw) h)
+    -- into a chunk of its own
+    write_own : {scope : Scope} {i : Interpretation} {s : rules.State} {c : run.State} (f : Name) (r t : Term) (k : ℕ) (v : Value) (on : Going) → Stands means world scope i s c → Good means s.next i r RefSort → value i r ≡ element (RefValue k) →
+        Good means s.next i t (field_sort p f) → value i t ≡ element v → type_of v ≡ run.field_type p f → (d : Candidate) → IsPlace (field_key f r) s.heap d → IsTrueIn i (holds_amount whole_amount (r ∷ []) d.chunk) → Cleared (on (chunk.written d t s)) → WroteAt scope f k v i s.next c on
+    write_own {scope = scope} {i = i} {s = s} {c = c} f r t k v on st g e gt vt ty d pl h cl = record {
+      interp = n.interp;
+      state = chunk.written d t s;
+      extends = n.extends;
+      later = n.later;
+      stands = record {
+        store = n.stands.store;
+        path = n.stands.path;
+        heap = heap_is;
+        old = n.stands.old;
+        awake = n.stands.awake;
+        bounded = n.stands.bounded;
+        null = n.stands.null;
+        standard = n.stands.standard;
+        owned = unowned means world _ _ _ _ _ _ _ world.own changing.of_no_function n.stands.owned;
+        marked = n.stands.marked;
+        holds = changing.written c.heap c.holdings (at_field k f) v st.holds enough;
+        old_holds = n.stands.old_holds;
+      };
+      enough = enough;
+      cleared = cl;
+    }
       where
         gw : Good means s.next i whole_amount RealSort
         gw = good_whole means
@@ -245,13 +276,89 @@ module _ (means : Meaning) (world : World) where
         location : (l m : run.Location) → run.At l ≡ run.At m → l ≡ m
         location l m e = cc
 
-        go : FirstWith means world (field_key f r) (holds_amount whole_amount (r ∷ [])) i s (λ d. on (rule.written d t s)) ⊎ Cleared (never at PermissionCode s) → WroteAt f k r t i s on
-        go (inr m) = stuck means world at PermissionCode st m
-        go (inl m) =
-            let d = m.candidate.chunk in
-            let a = taken_apart means world s.next i c.heap m.place st.heap in
-            let held = amount_is means world (of_field f r k g e) d m.place.kind m.place.resource a.chunk gw m.as_wanted in
-            record { candidate = m.candidate; place = m.place; location_is = location (location_of i d) (at_field k f) (sym (field_resource i d m.place.kind) ∙ held.0); whole = held.1; cleared = m.cleared }
+        a : Apart means world s.next i c.heap pl.front d.chunk pl.back c.holdings
+        a = taken_apart means world s.next i c.heap pl st.heap
+
+        held_whole : (resource_of i d.chunk ≡ run.At (at_field k f)) × Le full (amount_of i d.chunk)
+        held_whole = let m = amount_is means world (of_field f r k g e) d.chunk pl.kind pl.resource a.chunk gw h in (m.0, m.1)
+
+        n : Named means world scope i s.next c (field_sort p f) (value i t) (rules.name_of t s) (rules.after_name t s)
+        n = named means world t (field_sort p f) st gt
+
+        at_is : location_of i d.chunk ≡ at_field k f
+        at_is = location (location_of i d.chunk) (at_field k f) (sym (field_resource i d.chunk pl.kind) ∙ held_whole.0)
+
+        at_is' : location_of n.interp d.chunk ≡ at_field k f
+        at_is' = location (location_of n.interp d.chunk) (at_field k f) (sym (field_resource n.interp d.chunk pl.kind) ∙ resource_kept means world n.later n.extends d.chunk c.heap a.chunk ∙ field_resource i d.chunk pl.kind ∙ ap run.At at_is)
+
+        whole' : Le full (amount_of n.interp d.chunk)
+        whole' = subst (λ e. Le full e) (sym (amount_kept means world n.later n.extends d.chunk c.heap a.chunk)) held_whole.1
+
+        heap_is : HeapStands means world (rules.after_name t s).next n.interp (slice_set s.heap d.number (record d.chunk { value = rules.name_of t s })) ((at_field k f, v) ∷ c.heap) c.holdings
+        heap_is =
+            subst (λ l. HeapStands means world (rules.after_name t s).next n.interp (slice_set s.heap d.number (record d.chunk { value = rules.name_of t s })) ((l, v) ∷ c.heap) c.holdings) at_is'
+            (written_stands means world changing (rules.after_name t s).next n.interp c.heap pl pl.kind (heap_later means world n.later n.extends s.heap c.heap c.holdings st.heap) st.holds whole' (rules.name_of t s) v
+            (subst (λ x. Good means (rules.after_name t s).next n.interp (rules.name_of t s) (field_sort p x)) (sym pl.resource) n.good) (n.value_is ∙ vt) (ty ∙ ap (run.field_type p) (sym pl.resource)))
+
+        enough : Le full (run.amount c.holdings (run.At (at_field k f)))
+        enough = subst (λ y. Le full (run.amount c.holdings y)) held_whole.0 (le-trans held_whole.1 (chunk_held means world s.next i c.heap pl st.heap))
+
+    write_one : {scope : Scope} {i : Interpretation} {s : rules.State} {c : run.State} (f : Name) (r t : Term) (k : ℕ) (v : Value) (at : Place) (on : Going) →
+        Stands means world scope i s c → Good means s.next i r RefSort → value i r ≡ element (RefValue k) → Good means s.next i t (field_sort p f) → value i t ≡ element v → type_of v ≡ run.field_type p f → Cleared (write_field f r t at s on) → WroteAt scope f k v i s.next c on
+    write_one {scope = scope} {i = i} {s = s} {c = c} f r t k v at on st g e gt vt ty h = go (surely (holds_amount whole_amount (r ∷ [])) (chosen true (field_key f r) 0 s.heap)) refl h
+      where
+        gw : Good means s.next i whole_amount RealSort
+        gw = good_whole means
+
+        each_one : Going
+        each_one s1 = on (written_each r t (candidates (field_key f r) s1.heap) s1)
+
+        go : (o : Option Candidate) → surely (holds_amount whole_amount (r ∷ [])) (chosen true (field_key f r) 0 s.heap) ≡ o →
+            Cleared (elim o as (λ o. Tree) [ Some d ↦ Step (on (chunk.written d t s)) | None ↦ rule.ask (less_equal whole_amount (sum_at r (candidates (field_key f r) s.heap))) at PermissionCode s each_one ]) → WroteAt scope f k v i s.next c on
+        go (Some d) o m =
+            let x = surely_is (holds_amount whole_amount (r ∷ [])) (IsPlace (field_key f r) s.heap) (chosen true (field_key f r) 0 s.heap) d (matching_places (field_key f r) s.heap) o in
+            write_own f r t k v on st g e gt vt ty d x.0 (subst (IsTrueIn i) (sym (term_is (holds_amount whole_amount (r ∷ []) d.chunk) true_term x.1)) refl) m
+        go None o m =
+            let gs = (sum_is means world s.next i c.heap f r k g e (candidates (field_key f r) s.heap) (candidates_are means world s.next i c.heap f r k g e s.heap st.heap.each)) in
+            let w = asked_at means world (less_equal whole_amount (sum_at r (candidates (field_key f r) s.heap))) at PermissionCode each_one st (good_at_most means gw gs.good) m in
+            let enough : Le full (run.amount c.holdings (run.At (at_field k f))) =
+            le-trans (true_le means (sum_at r (candidates (field_key f r) s.heap)) gw w.0) (le-trans gs.is.there (le-trans (parts_below means world s.next i c.heap f r k g e s.heap st.heap.each) (st.heap.sums (run.At (at_field k f))))) in
+            finish w.1 enough
+          where
+            finish : AskedAt means world scope i s c each_one → Le full (run.amount c.holdings (run.At (at_field k f))) → WroteAt scope f k v i s.next c on
+            finish after enough =
+                let s1 = after.state in
+                let cs = candidates (field_key f r) s1.heap in
+                let g1 : Good means after.state.next i r RefSort = subst (λ m. Good means m i r RefSort) (sym after.next_is) g in
+                let gt1 : Good means after.state.next i t (field_sort p f) = subst (λ m. Good means m i t (field_sort p f)) (sym after.next_is) gt in
+                let nn : k ≡ 0 → ⊥ = λ q. not-positive full-positive (le-trans enough (subst (λ x. Le (run.amount c.holdings (run.At (at_field x f))) none) (sym q) ((world.limited c.heap c.holdings st.holds).null f))) in
+                let h0 = start_at means world changing s1.next i c.heap c.holdings f r k v st.holds enough (λ m. Among m cs) s1.heap after.stands.heap.each (all_held means world s1.next i c.heap c.holdings s1.heap after.stands.heap) (kin_among (field_key f r) s1.heap) in
+                let z = all_written means world changing s1.heap f r k t v ty nn cs s1 {scope = scope} {i = i} {c = c} after.stands (candidates_are means world s1.next i c.heap f r k g1 e s1.heap after.stands.heap.each) g1 e gt1 vt h0 in
+                record {
+                  interp = z.interp;
+                  state = written_each r t cs s1;
+                  extends = subst (λ m. Extends means m i z.interp) after.next_is z.extends;
+                  later = subst (λ m. m ≤ (written_each r t cs s1).next) after.next_is z.later;
+                  stands = record {
+                    store = z.stands.store;
+                    path = z.stands.path;
+                    heap = record {
+                      each = z.each;
+                      sums = λ x. le-trans (le-is (held_each z.interp r t cs s1 x (candidates_stand (field_key f r) s1.heap) (candidates_differ (field_key f r) s1.heap))) (z.stands.heap.sums x);
+                    };
+                    old = z.stands.old;
+                    awake = z.stands.awake;
+                    bounded = z.stands.bounded;
+                    null = z.stands.null;
+                    standard = z.stands.standard;
+                    owned = unowned means world _ _ _ _ _ _ _ world.own changing.of_no_function z.stands.owned;
+                    marked = z.stands.marked;
+                    holds = changing.written c.heap c.holdings (at_field k f) v st.holds enough;
+                    old_holds = z.stands.old_holds;
+                  };
+                  enough = enough;
+                  cleared = after.cleared;
+                }
 
     abbrev owned_value : run.State → Place → Name → Value → Value → Checked (run.Location × Value)
     owned_value c at f r v = meaning.owned c at f r >>= λ l. Ok (l, v)
@@ -280,70 +387,25 @@ module _ (means : Meaning) (world : World) where
         reference : (m : ℕ) × (r.result ≡ RefValue m)
         reference = ref_value_is r.result r.typed
 
-        x : WroteAt f reference.0 r.term q.term q.interp q.state on
-        x = write_one f r.term q.term reference.0 at on q.stands (good_later means q.later q.extends r.good) (value_kept means r.term r.good.settled q.extends ∙ r.value_is ∙ ap element reference.1) q.cleared
+        sort_is : sort_of_type k.0 ≡ field_sort p f
+        sort_is = sym (sort_of_field p f ∙ ap sort_of_type (field_type_is p f k.1))
 
-        d : rules.Chunk
-        d = x.candidate.chunk
-
-        a : Apart means world q.state.next q.interp c.heap x.place.front x.candidate.chunk x.place.back c.holdings
-        a = taken_apart means world q.state.next q.interp c.heap x.place q.stands.heap
-
-        n : Named means world scope q.interp q.state.next c (sort_of_type k.0) (value q.interp q.term) (rules.name_of q.term q.state) (rules.after_name q.term q.state)
-        n = named means world q.term (sort_of_type k.0) q.stands q.good
-
-        resource_is' : resource_of n.interp x.candidate.chunk ≡ resource_of q.interp x.candidate.chunk
-        resource_is' = resource_kept means world n.later n.extends d c.heap a.chunk
-
-        location : (l m : run.Location) → run.At l ≡ run.At m → l ≡ m
-        location l m e = cc
-
-        at_is' : location_of n.interp x.candidate.chunk ≡ at_field reference.0 f
-        at_is' = location (location_of n.interp d) (at_field reference.0 f) (sym (field_resource n.interp d x.place.kind) ∙ resource_is' ∙ field_resource q.interp d x.place.kind ∙ ap run.At x.location_is)
-
-        whole' : Le full (amount_of n.interp x.candidate.chunk)
-        whole' = subst (λ e. Le full e) (sym (amount_kept means world n.later n.extends d c.heap a.chunk)) x.whole
-
-        sort_is : sort_of_type k.0 ≡ field_sort p x.candidate.chunk.resource
-        sort_is = sym (ap (field_sort p) x.place.resource ∙ sort_of_field p f ∙ ap sort_of_type (field_type_is p f k.1))
-
-        type_is : type_of q.result ≡ run.field_type p x.candidate.chunk.resource
-        type_is = q.typed ∙ sym (ap (run.field_type p) x.place.resource ∙ field_type_is p f k.1)
-
-        heap_is : HeapStands means world (rules.after_name q.term q.state).next n.interp (slice_set q.state.heap x.candidate.number (record x.candidate.chunk { value = rules.name_of q.term q.state })) ((at_field reference.0 f, q.result) ∷ c.heap) c.holdings
-        heap_is =
-            subst (λ l. HeapStands means world (rules.after_name q.term q.state).next n.interp (slice_set q.state.heap x.candidate.number (record x.candidate.chunk { value = rules.name_of q.term q.state })) ((l, q.result) ∷ c.heap) c.holdings) at_is'
-            (written_stands means world changing (rules.after_name q.term q.state).next n.interp c.heap x.place x.place.kind (heap_later means world n.later n.extends q.state.heap c.heap c.holdings q.stands.heap) st.holds whole' (rules.name_of q.term q.state) q.result
-            (subst (λ z. Good means (rules.after_name q.term q.state).next n.interp (rules.name_of q.term q.state) z) sort_is n.good) (n.value_is ∙ q.value_is) type_is)
-
-        enough : Le full (run.amount c.holdings (run.At (at_field reference.0 f)))
-        enough = subst (λ y. Le full (run.amount c.holdings y)) (field_resource q.interp d x.place.kind ∙ ap run.At x.location_is) (le-trans x.whole (chunk_held means world q.state.next q.interp c.heap x.place q.stands.heap))
+        x : WroteAt scope f reference.0 q.result q.interp q.state.next c on
+        x = write_one f r.term q.term reference.0 q.result at on q.stands (good_later means q.later q.extends r.good) (value_kept means r.term r.good.settled q.extends ∙ r.value_is ∙ ap element reference.1)
+            (subst (λ z. Good means q.state.next q.interp q.term z) sort_is q.good) q.value_is (q.typed ∙ sym (field_type_is p f k.1)) q.cleared
 
         written : Goes means world scope i s.next on (run.with_heap ((at_field reference.0 f, q.result) ∷ c.heap) c)
         written = record {
-          interp = n.interp;
-          state = rule.written x.candidate q.term q.state;
-          extends = extends-trans means (le_trans r.later q.later) (extends-trans means r.later r.extends q.extends) n.extends;
-          later = le_trans (le_trans r.later q.later) n.later;
-          stands = record {
-            store = n.stands.store;
-            path = n.stands.path;
-            heap = heap_is;
-            old = n.stands.old;
-            awake = n.stands.awake;
-            bounded = n.stands.bounded;
-            null = n.stands.null;
-            standard = n.stands.standard;
-            owned = unowned means world _ _ _ _ _ _ _ world.own changing.of_no_function n.stands.owned;
-            marked = n.stands.marked;
-            holds = changing.written c.heap c.holdings (at_field reference.0 f) q.result st.holds enough;
-            old_holds = n.stands.old_holds;
-          };
+          interp = x.interp;
+          state = x.state;
+          extends = extends-trans means (le_trans r.later q.later) (extends-trans means r.later r.extends q.extends) x.extends;
+          later = le_trans (le_trans r.later q.later) x.later;
+          stands = x.stands;
           cleared = x.cleared;
         }
 
         allowed : Eventually (λ n. (fit_by p n c e >>= λ r. fit_by p n c e' >>= λ v. owned_value c at f r v) ≡ Ok (at_field reference.0 f, q.result))
-        allowed = both_eventually r.fits q.fits (λ m g l. write_fits m c at e f e' r.result q.result reference.0 g reference.1 l enough.holds)
+        allowed = both_eventually r.fits q.fits (λ m g l. write_fits m c at e f e' r.result q.result reference.0 g reference.1 l x.enough.holds)
 
         go : checked (λ n. fit_by p n c e >>= λ r. fit_by p n c e' >>= λ v. owned_value c at f r v) (λ (l, v). ends (run.with_heap ((l, v) ∷ c.heap) c)) outcome → Leaves means world scope i s.next on outcome
         go (passes y h rest) =

@@ -21,8 +21,8 @@ use Rattle.vx_terms.specs.Build.{whole_amount}
 use Rattle.vx_terms.specs.Interpretations.{Interpretation, TreeElement, Tree, value}
 use Rattle.vx_rules.specs.States as rules
 use Rattle.vx_rules.specs.Trees.{MeasureCode, PostCode, End}
-use Rattle.vx_rules.specs.Chunks.{candidates, instance_key}
-use Rattle.vx_rules.specs.Rules.{Giving, GivingAll, Going, Outer, first_with, holds_some, never, produce, consume}
+use Rattle.vx_rules.specs.Chunks.{candidates, holds_some, instance_key}
+use Rattle.vx_rules.specs.Rules.{Giving, GivingAll, Going, Outer, first_with, never, produce, consume}
 use Rattle.vx_rules.specs.Members.{codes, blank, rooted, function_body, from_measure, function_over}
 use Rattle.vx_types.specs.Typing.{HaveNoPerm, IsTyped, IsTypedMeasure, IsTypedFunction}
 use Rattle.vx_amounts.proofs.Amounts.{Le, Positive, le-refl, le-trans, full-positive}

@@ -1,17 +1,17 @@
 -- What is produced after a part is marked as before it: no part of an assertion changes what marks are put.
-use Rattle.std.proofs.Common.{◌≡◌, ℕ, zero, suc, pos, Bool, true, false, cond, ◌&&◌, ◌||◌, inl, inr, List, [], ◌∷◌, Option, Some, None, refl, sym, ◌∙◌, subst}
+use Rattle.std.proofs.Common.{◌≡◌, ℕ, zero, suc, pos, Bool, true, false, not, cond, ◌&&◌, ◌||◌, inl, inr, List, [], ◌∷◌, Option, Some, None, refl, sym, ◌∙◌, subst}
 use Rattle.vx_ast.specs.declared.Place.{Place}
 use Rattle.vx_ast.specs.Syntax.{Name, Program, Predicate, predicate_named, Connective, And, Or, Implies, Expr, Number, Truth, Null, Part, Variable, Not, Operate, Divide, Connect, Choose, Read, Old, Apply, Unfolding, Exprs, NoMore, More, Assertion, Pure, Points, Both, Implied, Chosen}
 use Rattle.vx_ast.specs.Syntax as syntax
 use Rattle.vx_terms.specs.Sorts.{Sort, SnapSort}
 use Rattle.vx_terms.specs.Terms.{Term, same, same_bool, sort_of}
 use Rattle.vx_terms.specs.Terms as term
-use Rattle.vx_terms.specs.Build.{true_term, false_term, negate, equals, ite, less, less_equal, multiply, unit, pair, first, second, wrap, unwrap, zero_amount}
+use Rattle.vx_terms.specs.Build.{true_term, false_term, negate, equals, ite, less, less_equal, subtract, multiply, unit, pair, first, second, wrap, unwrap, zero_amount}
 use Rattle.vx_terms.proofs.Same.{bool_is}
 use Rattle.vx_rules.specs.States.{State, Chunk, is_quiet, is_known, with_heap, with_entry, with_fact, with_facts, with_branch, bind, fresh, after_fresh, is_named, after_name, name_of}
 use Rattle.vx_rules.specs.Trees.{Code, AssertCode, AmountCode, UnfoldCode, PermissionCode, DivisorCode, Tree, Impossible, Ask, Probe, Fork, Step, End}
-use Rattle.vx_rules.specs.Chunks.{field_key, instance_key, Candidate, candidates, reduced, chosen, field_facts, instance_facts, put_over, put}
-use Rattle.vx_rules.specs.Rules.{Going, Giving, GivingAll, Outer, outer, nowhere, question, unless_false, ask, never, probe, fork, short, is_total, operated, divided, connected, first_with, holds_some, holds_amount, take_fresh, take_chunk, read_field, placed, entered, back, leads_inside, unfolded, field_sort, with_unit, with_split, produced_value, after_value, produced_snapshot, after_snapshot, left_part, right_part, eval, evals, produce}
+use Rattle.vx_rules.specs.Chunks.{field_key, instance_key, first_argument, Candidate, chosen, candidates, holds_some, holds_amount, surely, sum_at, value_facts, with_value, reduced, share, with_amount, shared_out, without_empty, put_facts, put_over, put}
+use Rattle.vx_rules.specs.Rules.{Going, Giving, GivingAll, Outer, outer, nowhere, question, unless_false, ask, never, probe, fork, short, is_total, operated, divided, connected, first_with, by_sum, take_fresh, take_chunk, read_field, placed, entered, back, leads_inside, unfolded, field_sort, with_unit, with_split, produced_value, after_value, produced_snapshot, after_snapshot, left_part, right_part, eval, evals, produce}
 use Rattle.vx_rules.specs.Members.{blank}
 use Rattle.vx_sound.proofs.Standard.{start}
 use Rattle.vx_sound.proofs.Passes.{Cleared}
@@ -44,11 +44,23 @@ put_marks : (new : Chunk) (s : State) → (put new s).inner ≡ s.inner
 put_marks new s = go (same new.amount zero_amount)
   where
     facts : List Term
-    facts = cond new.is_field (field_facts s.bounded (chosen true new 0 s.heap) new s.heap) (instance_facts (chosen true new 0 s.heap) new)
+    facts = put_facts (not (is_quiet s)) s.bounded new s.heap
 
-    go : (b : Bool) → (let r : State = cond b s (with_facts (cond new.is_field (field_facts s.bounded (chosen true new 0 s.heap) new s.heap) (instance_facts (chosen true new 0 s.heap) new)) (with_heap (put_over (chosen true new 0 s.heap) new s.heap) s)) in r.inner) ≡ s.inner
+    go : (b : Bool) → (let r : State = cond b s (with_facts (put_facts (not (is_quiet s)) s.bounded new s.heap) (with_heap (put_over (chosen true new 0 s.heap) new s.heap) s)) in r.inner) ≡ s.inner
     go true = refl
     go false = facts_marks facts (with_heap (put_over (chosen true new 0 s.heap) new s.heap) s)
+
+-- what is read by the sum, and what is taken by it
+read_marks : (r u : Term) (cs : List Candidate) (s : State) → (with_value r u cs s).inner ≡ s.inner
+read_marks r u cs s = facts_marks (value_facts r u cs) (after_fresh s)
+
+shared_marks : (r n : Term) (cs : List Candidate) (s : State) → (shared_out r n cs s).inner ≡ s.inner
+shared_marks r n [] s = refl
+shared_marks r n (c ∷ cs) s =
+    let t = share r n c.chunk in
+    let taken = name_of t s in
+    let rest = subtract c.chunk.amount taken in
+    shared_marks r (subtract n taken) cs (with_amount c rest (after_name t s)) ∙ name_marks rest (after_name t s) ∙ name_marks t s
 
 pub unit_marks : (snapshot : Option Term) (s : State) → (with_unit snapshot s).inner ≡ s.inner
 unit_marks None s = refl
@@ -114,20 +126,70 @@ first_kept wanted [] at code s on other x y f g w = g w
 first_kept wanted (c ∷ cs) at code s on other x y f g w =
     probe_kept (wanted c.chunk) at code s (on c) (first_with wanted cs at code s on x) (other c) (first_with wanted cs at code s other y) (f c) (first_kept wanted cs at code s on other x y f g) w
 
+sum_kept : (wanted : Chunk → Term) (asked : Term → Term) (key : Chunk) (at : Place) (code : Code) (s : State) (on other : Candidate → Tree) (more others : Going) → ((c : Candidate) → Cleared (on c) → Cleared (other c)) → Replaces s more others →
+    Cleared (by_sum wanted asked key at code s on more) → Cleared (by_sum wanted asked key at code s other others)
+sum_kept wanted asked key at code s on other more others f g w = go (surely wanted (chosen true key 0 s.heap)) w
+  where
+    c : Term
+    c = asked (sum_at (first_argument key.arguments) (candidates key s.heap))
+
+    go : (o : Option Candidate) →
+        Cleared (elim o as (λ o. Tree) [ Some d ↦ Step (on d) | None ↦ ask (asked (sum_at (first_argument key.arguments) (candidates key s.heap))) at code s more ]) →
+        Cleared (elim o as (λ o. Tree) [ Some d ↦ Step (other d) | None ↦ ask (asked (sum_at (first_argument key.arguments) (candidates key s.heap))) at code s others ])
+    go (Some d) k = f d k
+    go None k = ask_kept c at code s more others g k
+
 take_kept : (key : Chunk) (a : Term) (sort : Sort) (at : Place) (code : Code) (s : State) (on other : Chunk → State → Tree) → ((c : Chunk) → Replaces s (on c) (other c)) → Cleared (take_chunk key a sort at code s on) → Cleared (take_chunk key a sort at code s other)
 take_kept key a sort at code s on other h w =
-    first_kept (holds_amount a key.arguments) (candidates key s.heap) at code s (λ c. on c.chunk (with_heap (reduced c a s.heap) s)) (λ c. other c.chunk (with_heap (reduced c a s.heap) s))
-    (take_fresh key a sort at code s on) (take_fresh key a sort at code s other)
-    (λ c. h c.chunk (with_heap (reduced c a s.heap) s) refl)
-    (cond_kept (is_quiet s) End (ask (equals a zero_amount) at code s (λ s1. on (record key { amount = a; value = fresh sort s1 }) (after_fresh s1))) End (ask (equals a zero_amount) at code s (λ s1. other (record key { amount = a; value = fresh sort s1 }) (after_fresh s1)))
-    (λ z. z)
-    (ask_kept (equals a zero_amount) at code s (λ s1. on (record key { amount = a; value = fresh sort s1 }) (after_fresh s1)) (λ s1. other (record key { amount = a; value = fresh sort s1 }) (after_fresh s1))
-    (λ t e. h (record key { amount = a; value = fresh sort t }) (after_fresh t) e))) w
+    cond_kept (key.is_field && not (is_quiet s)) (by_sum (holds_amount a key.arguments) (less_equal a) key at code s (taking on) (summed on)) (first_with (holds_amount a key.arguments) (candidates key s.heap) at code s (taking on) (take_fresh key a sort at code s on))
+    (by_sum (holds_amount a key.arguments) (less_equal a) key at code s (taking other) (summed other)) (first_with (holds_amount a key.arguments) (candidates key s.heap) at code s (taking other) (take_fresh key a sort at code s other))
+    (sum_kept (holds_amount a key.arguments) (less_equal a) key at code s (taking on) (taking other) (summed on) (summed other) taken_kept summed_kept)
+    (first_kept (holds_amount a key.arguments) (candidates key s.heap) at code s (taking on) (taking other) (take_fresh key a sort at code s on) (take_fresh key a sort at code s other) taken_kept
+    (cond_kept (is_quiet s) End (ask (equals a zero_amount) at code s (fresh_taken on)) End (ask (equals a zero_amount) at code s (fresh_taken other)) (λ z. z)
+    (ask_kept (equals a zero_amount) at code s (fresh_taken on) (fresh_taken other) (λ t e. h (record key { amount = a; value = fresh sort t }) (after_fresh t) e)))) w
+  where
+    taking : (Chunk → State → Tree) → Candidate → Tree
+    taking on c = on c.chunk (with_heap (reduced c a s.heap) s)
 
-read_kept : (f : Name) (r : Term) (at : Place) (s : State) (on other : Giving) → ReplacesGiving s on other → Cleared (read_field f r at s on) → Cleared (read_field f r at s other)
-read_kept f r at s on other h w =
-    first_kept (holds_some (r ∷ [])) (candidates (field_key f r) s.heap) at PermissionCode s (λ c. on c.chunk.value s) (λ c. other c.chunk.value s) (never at PermissionCode s) (never at PermissionCode s)
-    (λ c. h c.chunk.value s refl) (λ z. z) w
+    taken_kept : (c : Candidate) → Cleared (taking on c) → Cleared (taking other c)
+    taken_kept c = h c.chunk (with_heap (reduced c a s.heap) s) refl
+
+    fresh_taken : (Chunk → State → Tree) → Going
+    fresh_taken on t = on (record key { amount = a; value = fresh sort t }) (after_fresh t)
+
+    summed : (Chunk → State → Tree) → Going
+    summed on t =
+        let r = first_argument key.arguments in
+        let cs = candidates key t.heap in
+        let t2 = shared_out r a cs t in
+        let u = fresh sort t2 in
+        on (record key { amount = a; value = u }) (with_value r u cs (with_heap (without_empty t2.heap) t2))
+
+    summed_kept : Replaces s (summed on) (summed other)
+    summed_kept t e =
+        let r = first_argument key.arguments in
+        let cs = candidates key t.heap in
+        let t2 = shared_out r a cs t in
+        let u = fresh sort t2 in
+        let t3 = with_heap (without_empty t2.heap) t2 in
+        h (record key { amount = a; value = u }) (with_value r u cs t3) (read_marks r u cs t3 ∙ shared_marks r a cs t ∙ e)
+
+read_kept : (f : Name) (r : Term) (sort : Sort) (at : Place) (s : State) (on other : Giving) → ReplacesGiving s on other → Cleared (read_field f r sort at s on) → Cleared (read_field f r sort at s other)
+read_kept f r sort at s on other h w =
+    cond_kept (is_quiet s) (first_with (holds_some (r ∷ [])) (candidates (field_key f r) s.heap) at PermissionCode s (reading on) (never at PermissionCode s)) (by_sum (holds_some (r ∷ [])) (less zero_amount) (field_key f r) at PermissionCode s (reading on) (summed on))
+    (first_with (holds_some (r ∷ [])) (candidates (field_key f r) s.heap) at PermissionCode s (reading other) (never at PermissionCode s)) (by_sum (holds_some (r ∷ [])) (less zero_amount) (field_key f r) at PermissionCode s (reading other) (summed other))
+    (first_kept (holds_some (r ∷ [])) (candidates (field_key f r) s.heap) at PermissionCode s (reading on) (reading other) (never at PermissionCode s) (never at PermissionCode s) reading_kept (λ z. z))
+    (sum_kept (holds_some (r ∷ [])) (less zero_amount) (field_key f r) at PermissionCode s (reading on) (reading other) (summed on) (summed other) reading_kept (λ t e.
+    h (fresh sort t) (with_value r (fresh sort t) (candidates (field_key f r) t.heap) t) (read_marks r (fresh sort t) (candidates (field_key f r) t.heap) t ∙ e))) w
+  where
+    reading : Giving → Candidate → Tree
+    reading on c = on c.chunk.value s
+
+    reading_kept : (c : Candidate) → Cleared (reading on c) → Cleared (reading other c)
+    reading_kept c = h c.chunk.value s refl
+
+    summed : Giving → Going
+    summed on t = on (fresh sort t) (with_value r (fresh sort t) (candidates (field_key f r) t.heap) t)
 
 module _ (p : Program) (good : GoodBodies p) where
   -- what is shown of the bodies that an expression brings in
@@ -202,7 +264,7 @@ module _ (p : Program) (good : GoodBodies p) where
           fork_kept t s1 (λ s2. eval p o a s2 on) (λ s2. eval p o b s2 on) (λ s2. eval p o a s2 other) (λ s2. eval p o b s2 other)
           (λ s2 e2 w2. eval_kept a k.1 s2 on other w2 (λ u s3 e3. h u s3 (e3 ∙ e2 ∙ e1))) (λ s2 e2 w2. eval_kept b k.2 s2 on other w2 (λ u s3 e3. h u s3 (e3 ∙ e2 ∙ e1))) w1)) w
       eval_kept (Read at e f) k s on other w h =
-          eval_kept e k s (λ r s1. read_field f r (placed s1 at) s1 on) (λ r s1. read_field f r (placed s1 at) s1 other) w (λ r s1 e1 w1. read_kept f r (placed s1 at) s1 on other (λ u s2 e2. h u s2 (e2 ∙ e1)) w1)
+          eval_kept e k s (λ r s1. read_field f r (field_sort p f) (placed s1 at) s1 on) (λ r s1. read_field f r (field_sort p f) (placed s1 at) s1 other) w (λ r s1 e1 w1. read_kept f r (field_sort p f) (placed s1 at) s1 on other (λ u s2 e2. h u s2 (e2 ∙ e1)) w1)
       eval_kept (Old at e) k s on other w h = absurd k
       eval_kept (Apply at f es) k s on other w h = absurd k
       eval_kept (Unfolding at i es share e) k s on other w h =

@@ -1,5 +1,5 @@
 -- A quiet walk: at each side that it leaves something is told, by an interpretation that knows the applications that were made.
-use Rattle.std.proofs.Common.{◌≡◌, ℕ, Bool, true, false, not, cond, ◌||◌, List, [], ◌∷◌, ◌++◌, append_assoc, refl, sym, ◌∙◌, ap, subst, le_refl, true≢false}
+use Rattle.std.proofs.Common.{◌≡◌, ℕ, Bool, true, false, not, cond, ◌&&◌, ◌||◌, List, [], ◌∷◌, ◌++◌, append_assoc, refl, sym, ◌∙◌, ap, subst, le_refl, true≢false}
 use Rattle.vx_ast.specs.declared.Place.{Place}
 use Rattle.vx_ast.specs.declared.ValueType.{ValueType}
 use Rattle.vx_ast.specs.Syntax.{Declaration}
@@ -170,6 +170,16 @@ module _ (means : Meaning) (world : World) (n : ℕ) (w : Walk means n) where
 
   pub never_told : (i : Interpretation) (s : State) (at : Place) (code : Code) → Quiet s → Told i (never at code s)
   never_told i s at code q = end_told i (is_quiet s) q _
+
+  -- above level 0 no sum is asked for
+  pub unsummed_told : (i : Interpretation) (a b : Bool) → b ≡ true → (x y : Tree) → Told i y → Told i (cond (a && not b) x y)
+  unsummed_told i true true e x y h = h
+  unsummed_told i false true e x y h = h
+  unsummed_told i a false e x y h = cc
+
+  pub quiet_told : (i : Interpretation) (b : Bool) → b ≡ true → (x y : Tree) → Told i x → Told i (cond b x y)
+  quiet_told i true e x y h = h
+  quiet_told i false e x y h = cc
 
   pub no_chunk_told : (i : Interpretation) (s : State) (x : Tree) → Quiet s → Told i (cond (is_quiet s) End x)
   no_chunk_told i s x q = end_told i (is_quiet s) q x

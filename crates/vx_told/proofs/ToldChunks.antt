@@ -12,8 +12,8 @@ use Rattle.vx_terms.specs.Interpretations.{Interpretation, as_fraction, value, I
 use Rattle.vx_rules.specs.States as rules
 use Rattle.vx_rules.specs.States.{State, sort_of_type, with_heap}
 use Rattle.vx_rules.specs.Trees.{Code, PermissionCode}
-use Rattle.vx_rules.specs.Chunks.{Candidate, candidates, field_key, reduced}
-use Rattle.vx_rules.specs.Rules.{Giving, Going, field_sort, holds_some, holds_amount, never, take_fresh, take_chunk, read_field}
+use Rattle.vx_rules.specs.Chunks.{Candidate, candidates, field_key, holds_some, holds_amount, reduced}
+use Rattle.vx_rules.specs.Rules.{Giving, Going, field_sort, never, take_fresh, take_chunk, read_field}
 use Rattle.vx_types.specs.Typing.{Scope}
 use Rattle.vx_amounts.proofs.Amounts.{Le, Positive, Same, le-trans, positive-le}
 use Rattle.vx_elements.proofs.Settled.{Meaning, extends-refl}
@@ -28,7 +28,7 @@ use Rattle.vx_sound.proofs.Chunks.{taken_apart, chunk_held, reduced_stands}
 use Rattle.vx_sound.proofs.Candidates.{Keys, of_field, of_instance, keys_typed, some_is, amount_is}
 use Rattle.vx_sound.proofs.Giving.{IsInstance}
 use Rattle.vx_sound.proofs.Puts.{stands_with_holdings}
-use Rattle.vx_told.proofs.Told.{Walk, On, Told, FollowsWith, first_told, never_told, no_chunk_told, on_quiet}
+use Rattle.vx_told.proofs.Told.{Walk, On, Told, FollowsWith, first_told, never_told, unsummed_told, quiet_told, no_chunk_told, on_quiet}
 
 module _ (means : Meaning) (world : World) (n : ℕ) (w : Walk means n) where
   abbrev p : Program
@@ -36,10 +36,11 @@ module _ (means : Meaning) (world : World) (n : ℕ) (w : Walk means n) where
 
   -- a location is read
   pub read_told : {scope : Scope} {i : Interpretation} {s : State} {c : run.State} (f : Name) (t : ValueType) (r : Term) (k : ℕ) (at : Place) (on : Giving) → field_named world.program f ≡ Some t → On means world n w scope i s c →
-      Good means n i r RefSort → value i r ≡ element (RefValue k) → FollowsWith means world n w scope i c t (run.value_at world.program c.heap (at_field k f)) on → Told means world n w i (read_field f r at s on)
+      Good means n i r RefSort → value i r ≡ element (RefValue k) → FollowsWith means world n w scope i c t (run.value_at world.program c.heap (at_field k f)) on → Told means world n w i (read_field f r (field_sort world.program f) at s on)
   read_told {scope = scope} {i = i} {s = s} {c = c} f t r k at on named here g is h =
-      first_told means world n w s (holds_some (r ∷ [])) (candidates (field_key f r) s.heap) at PermissionCode (λ d. on d.chunk.value s) (never at PermissionCode s) (on_quiet means world n w here) (candidates_places (field_key f r) s.heap) found
-      (never_told means world n w i s at PermissionCode (on_quiet means world n w here))
+      quiet_told means world n w i (rules.is_quiet s) (on_quiet means world n w here) _ _
+      (first_told means world n w s (holds_some (r ∷ [])) (candidates (field_key f r) s.heap) at PermissionCode (λ d. on d.chunk.value s) (never at PermissionCode s) (on_quiet means world n w here) (candidates_places (field_key f r) s.heap) found
+      (never_told means world n w i s at PermissionCode (on_quiet means world n w here)))
     where
       keys : Keys means world n i (field_key f r) (run.At (at_field k f)) (field_sort world.program f)
       keys = of_field f r k g is
@@ -64,8 +65,9 @@ module _ (means : Meaning) (world : World) (n : ℕ) (w : Walk means n) where
       On means world n w scope i s c → Good means n i a RealSort → Same (as_fraction (value i a)) q → Le none (as_fraction (value i a)) →
       ((d : rules.Chunk) (s1 : State) → TakenOf scope i c r b q d s1 → Told means world n w i (on d s1)) → Told means world n w i (take_chunk key a b at code s on)
   take_told {scope = scope} {i = i} {s = s} {c = c} {key = key} {r = r} {b = b} keys a q at code on here ga same_q sign h =
-      first_told means world n w s (holds_amount a key.arguments) (candidates key s.heap) at code (λ d. on d.chunk (with_heap (reduced d a s.heap) s)) (take_fresh key a b at code s on) (on_quiet means world n w here) (candidates_places key s.heap) found
-      (no_chunk_told means world n w i s _ (on_quiet means world n w here))
+      unsummed_told means world n w i key.is_field (rules.is_quiet s) (on_quiet means world n w here) _ _
+      (first_told means world n w s (holds_amount a key.arguments) (candidates key s.heap) at code (λ d. on d.chunk (with_heap (reduced d a s.heap) s)) (take_fresh key a b at code s on) (on_quiet means world n w here) (candidates_places key s.heap) found
+      (no_chunk_told means world n w i s _ (on_quiet means world n w here)))
     where
       kind_is : {key : rules.Chunk} {r : run.Resource} {b : Sort} → Keys means world n i key r b → IsInstance r → key.is_field ≡ false
       kind_is (of_field f r k g e) h = absurd h

@@ -26,7 +26,7 @@ use Rattle.vx_rules.specs.States.{State, sort_of_type, with_heap}
 use Rattle.vx_rules.specs.States as rules
 use Rattle.vx_rules.specs.Trees.{Tree, Step, DivisorCode, AmountCode}
 use Rattle.vx_rules.specs.Rules as rule
-use Rattle.vx_rules.specs.Rules.{Giving, Going, GivingAll, Outer, placed, short, is_total, read_field, applied, unfolded, eval, evals}
+use Rattle.vx_rules.specs.Rules.{Giving, Going, GivingAll, Outer, placed, short, is_total, field_sort, read_field, applied, unfolded, eval, evals}
 use Rattle.vx_types.specs.Typing.{Scope, HasType, HaveTypes, nulls, part, variable, nots, operates, scales, divides, connects, chooses, reads, olds, applies, unfoldings}
 use Rattle.vx_types.specs.Typing as typed
 use Rattle.vx_amounts.proofs.Amounts.{Positive, Same, same-refl, same-lowest', lowest_is, product_same}
@@ -417,11 +417,11 @@ module _ (means : Meaning) (world : World) (n : ℕ) (w : Walk means n) where
             (λ j t s1 f. fork_left (w.Tells j) s1 t go_left go_right (λ s2 st. off_eval a on off j s2 (off_still means world n w f st)) (λ s2 st. off_eval b on off j s2 (off_still means world n w f st)))))
         eval_told (reads {at = at} {e = a} f {t = ty} named ta) k {c = c} {v = v} on here e h off =
             let x = undo (fit p d c a) (λ r. or_fail at (location_of f r) >>= λ l. or_fail at (readable p c l)) v e in
-            step_told means world n w _ (eval_told ta k (λ r s1. read_field f r (placed s1 at) s1 on) here x.is (λ j r s1 ext on1 g is t1.
+            step_told means world n w _ (eval_told ta k (λ r s1. read_field f r (field_sort p f) (placed s1 at) s1 on) here x.is (λ j r s1 ext on1 g is t1.
             let y = ref_value_is x.it t1 in
             let worth = read_outcome at c f y.0 v (sym (ap (λ r. or_fail at (location_of f r) >>= λ l. or_fail at (readable p c l)) y.1) ∙ x.then) in
             read_told means world n w f ty r y.0 (placed s1 at) on named on1 g (is ∙ ap element y.1) (λ j2 u s2 ext2 on2 g2 is2 t2. h j2 u s2 (also ext ext2) on2 g2 (is2 ∙ ap element worth) (sym (ap type_of worth) ∙ t2)))
-            (λ j r s1 f'. read_left (w.Tells j) s1 f r (placed s1 at) on (off_quiet means world n w f') (λ u s2 st. off j u s2 (off_still means world n w f' st))))
+            (λ j r s1 f'. read_left (w.Tells j) s1 f r (field_sort p f) (placed s1 at) on (off_quiet means world n w f') (λ u s2 st. off j u s2 (off_still means world n w f' st))))
         eval_told (olds {e = a} ta) k {s = s} {c = c} on here e h off =
             step_told means world n w _ (eval_told ta k (λ t s1. Step (on t (with_heap s.heap s1))) (awake_old here) e
             (λ j t s1 ext on1 g is ty. step_told means world n w _ (h j t (with_heap s.heap s1) ext (awake_again ext here on1) g is ty))
