@@ -1,13 +1,12 @@
 -- What is chosen from a heap is picked at the places of its name.
-use Rattle.std.proofs.Common.{◌≡◌, ◌+◌, ℕ, suc, Bool, true, false, List, [], ◌∷◌, map, Option, Some, None, refl, sym, ap, ◌∙◌, subst, arith}
+use Rattle.std.proofs.Common.{◌≡◌, ◌+◌, ℕ, suc, Bool, true, false, List, [], ◌∷◌, ◌++◌, map, Option, Some, None, refl, sym, ap, ◌∙◌, subst, arith}
 use Rattle.std.specs.Prelude.{◌&&◌, if◌then◌else◌, nat_eq, not, slice_get}
 use Rattle.vx_ast.specs.Syntax.{same_name}
 use Rattle.vx_rules.proofs.Names.{same_name_is}
 use Rattle.vx_terms.specs.Terms.{Term, same_bool}
-use Rattle.vx_terms.specs.Build.{implies, equals, less_equal, add, whole_amount}
 use Rattle.vx_rules.specs.States.{Chunk, Heap}
-use Rattle.vx_rules.specs.Chunks.{Candidate, is_kin, same_arguments, chosen, apart, first_argument}
-use Rattle.vx_heap.specs.Heaps.{IsFirst}
+use Rattle.vx_rules.specs.Chunks.{Candidate, is_kin, same_arguments, chosen, apart, at_most_whole, bounding, one_value, with_other}
+use Rattle.vx_heap.specs.Heaps.{IsFirst, apart_onto}
 use Rattle.vx_heap.specs.Picked.{passes, passes_at, picked, picked_onto}
 use Rattle.vx_heap.specs.Places.{places, row_of}
 use Rattle.vx_heap.proofs.Tests.{itself}
@@ -58,20 +57,27 @@ first_behind key h n ns p = go (slice_get h n) p
     go (Some c) t = ap (λ k. if k then record { number = n; chunk = c } ∷ picked true key h ns else picked true key h ns) t
     go None t = refl
 
--- with each of these at most the whole exists
-abbrev pub apart_from : Chunk → Candidate → Term
-apart_from whole c = implies (equals (first_argument c.chunk.arguments) (first_argument whole.arguments)) (less_equal (add whole.amount c.chunk.amount) whole_amount)
-
-pub apart_chosen : (whole : Chunk) (n : ℕ) (h : Heap) → map (apart_from whole) (chosen false whole n h) ≡ apart whole h
-apart_chosen whole n [] = refl
-apart_chosen whole n (c ∷ cs) = go (is_kin whole c) (same_arguments whole.arguments c.arguments) (apart_chosen whole (suc n) cs)
+-- what holds with each of the others
+pub apart_chosen : (summed bounded : Bool) (whole : Chunk) (n : ℕ) (h : Heap) (rest : List Term) → apart_onto summed bounded whole (chosen false whole n h) rest ≡ apart summed bounded whole h ++ rest
+apart_chosen summed bounded whole n [] rest = refl
+apart_chosen summed bounded whole n (c ∷ cs) rest = go (is_kin whole c) (same_arguments whole.arguments c.arguments) (apart_chosen summed bounded whole (suc n) cs rest)
   where
     one : Candidate
     one = record { number = n; chunk = c }
 
-    go : (k s : Bool) → map (apart_from whole) (chosen false whole (suc n) cs) ≡ apart whole cs →
-        map (apart_from whole) (if k && same_bool false s then one ∷ chosen false whole (suc n) cs else chosen false whole (suc n) cs) ≡ (if k && not s then apart_from whole one ∷ apart whole cs else apart whole cs)
+    others : List Candidate
+    others = chosen false whole (suc n) cs
+
+    joined : (s b : Bool) (xs ys : List Term) → xs ≡ ys ++ rest →
+        bounding b (at_most_whole whole c ∷ []) ++ (bounding s (one_value whole c ∷ []) ++ xs) ≡ (with_other s b whole c ++ ys) ++ rest
+    joined true true xs ys e = ap (λ l. at_most_whole whole c ∷ one_value whole c ∷ l) e
+    joined true false xs ys e = ap (λ l. one_value whole c ∷ l) e
+    joined false true xs ys e = ap (λ l. at_most_whole whole c ∷ l) e
+    joined false false xs ys e = e
+
+    go : (k s : Bool) → apart_onto summed bounded whole others rest ≡ apart summed bounded whole cs ++ rest →
+        apart_onto summed bounded whole (if k && same_bool false s then one ∷ others else others) rest ≡ (if k && not s then with_other summed bounded whole c ++ apart summed bounded whole cs else apart summed bounded whole cs) ++ rest
     go true true e = e
-    go true false e = ap (λ l. apart_from whole one ∷ l) e
+    go true false e = joined summed bounded _ _ e
     go false true e = e
     go false false e = e

@@ -3,7 +3,6 @@
 ghost use Rattle.std.specs.Prelude.{◌≡◌, IfOk};
 ghost use Rattle.vx_heap.specs.Views.{chunk as chunk_view, terms_of, held_term};
 ghost use Rattle.vx_rules.specs.Chunks as chunks;
-ghost use Rattle.vx_rules.specs.Rules as rules;
 
 use crate::Chunk;
 use crate::amounts::positive;
@@ -55,7 +54,7 @@ pub fn holds_some(
     arguments: &[Rc<Term>],
     chunk: &Chunk,
 ) -> Result<Rc<Term>, AllocError>
-    ensures { IfOk result (λ t. held_term t ≡ rules.holds_some (terms_of arguments.now) (chunk_view chunk.now)) }
+    ensures { IfOk result (λ t. held_term t ≡ chunks.holds_some (terms_of arguments.now) (chunk_view chunk.now)) }
 {
     let same = equal_arguments(alloc, &chunk.arguments, arguments)?;
     make::and(alloc, &same, &positive(alloc, &chunk.amount)?)
@@ -68,7 +67,7 @@ pub fn holds_amount(
     arguments: &[Rc<Term>],
     chunk: &Chunk,
 ) -> Result<Rc<Term>, AllocError>
-    ensures { IfOk result (λ t. held_term t ≡ rules.holds_amount (held_term amount.now) (terms_of arguments.now) (chunk_view chunk.now)) }
+    ensures { IfOk result (λ t. held_term t ≡ chunks.holds_amount (held_term amount.now) (terms_of arguments.now) (chunk_view chunk.now)) }
 {
     let same = equal_arguments(alloc, &chunk.arguments, arguments)?;
     make::and(alloc, &same, &numbers::le(alloc, amount, &chunk.amount)?)

@@ -12,6 +12,7 @@ mod held;
 mod put;
 mod references;
 mod rows;
+mod sums;
 
 pub use amounts::{not_negative, positive, whole, zero};
 pub use candidates::Candidate;
@@ -20,3 +21,4 @@ pub use conditions::{equal_arguments, holds_amount, holds_some};
 pub use facts::merged;
 pub use heap::SymHeap;
 pub use references::{add_unlike, unlike};
+pub use sums::{share, sum_at, value_facts, value_where};

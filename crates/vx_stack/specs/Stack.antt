@@ -47,10 +47,10 @@ use Rattle.vx_states.specs.Paths.{entries}
 use Rattle.vx_states.specs.SymStates.{binding, optional_term, state}
 use Rattle.vx_states.specs.Entering.{back_to}
 use Rattle.vx_rules.specs.Trees.{Code, AmountCode, CallCode, DivisorCode, KeptCode, MeasureCode, PostCode, UnfoldCode, Question, Tree, End, Impossible, On, Step, Ask, Probe, Fork}
-use Rattle.vx_rules.specs.Chunks.{field_key, instance_key, Candidate, candidates, only_inner, reduced, put}
+use Rattle.vx_rules.specs.Chunks.{field_key, instance_key, Candidate, candidates, holds_some, holds_amount, only_inner, reduced, put, shared_out, with_value, without_empty, written_each}
 use Rattle.vx_rules.specs.Groups.{function_number}
 use Rattle.vx_rules.specs.Codes.{code}
-use Rattle.vx_rules.specs.Rules.{Giving, Going, GivingAll, Context, ask, never, fork, short, operated, divided, connected, first_with, holds_some, holds_amount, take_chunk, read_field, written, write_field, field_sort, placed, with_built_wrap, with_built_pair, produced_value, after_value, produced_snapshot, after_snapshot, with_unit, leads_inside, entered, back, applied, lesser, measured, terms, with_equations, unfolded, eval, evals, produce, consume}
+use Rattle.vx_rules.specs.Rules.{Giving, Going, GivingAll, Context, ask, never, fork, short, operated, divided, connected, first_with, take_chunk, read_field, write_field, field_sort, placed, with_built_wrap, with_built_pair, produced_value, after_value, produced_snapshot, after_snapshot, with_unit, leads_inside, entered, back, applied, lesser, measured, terms, with_equations, unfolded, eval, evals, produce, consume}
 use Rattle.vx_rules.specs.Members.{codes, forget, names_of as named_of, after_names, called, folded, exec, exec_all, from_measure, function_body, rooted, rules, sides}
 
 abbrev pub query : Query → Question
@@ -140,7 +140,7 @@ module _ (p : Program) where
   operand (operand'.ChooseWith t u) on v s = Step (on (ite (held_term t) (held_term u) v) s)
   operand (operand'.ChooseSides a b) on t s =
       fork t s (λ s1. eval p (rules p) (expr a.value) s1 on) (λ s1. eval p (rules p) (expr b.value) s1 on)
-  operand (operand'.Receiver at f) on r s = read_field (string_bytes f.value) r (placed s at) s on
+  operand (operand'.Receiver at f) on r s = read_field (string_bytes f.value) r (field_sort p (string_bytes f.value)) (placed s at) s on
   operand (operand'.Restore h) on t s = Step (on t (with_heap (heap h.value) s))
   operand (operand'.Unfolding at i es e h) on a s =
       ask (less zero_amount a) (placed s at) AmountCode s (λ s1.
@@ -191,6 +191,22 @@ module _ (p : Program) where
       fork t s (λ s1. producing (assertion a.value) x.value s1 on) (λ s1. on (with_unit (optional_term x.value.snapshot) s1))
   produced (produced'.Chosen a b x) on t s =
       fork t s (λ s1. producing (assertion a.value) x.value s1 on) (λ s1. producing (assertion b.value) x.value s1 on)
+
+  -- a location is read, taken from or written over all its candidates, of whose sum was asked
+  abbrev pub read_over : Name → Term → Giving → Going
+  read_over f r on s =
+      let u = fresh (field_sort p f) s in
+      on u (with_value r u (candidates (field_key f r) s.heap) s)
+
+  abbrev pub take_over : Name → Term → Term → Giving → Going
+  take_over f r a on s =
+      let cs = candidates (field_key f r) s.heap in
+      let s1 = shared_out r a cs s in
+      let u = fresh (field_sort p f) s1 in
+      on u (with_value r u cs (with_heap (without_empty s1.heap) s1))
+
+  abbrev pub write_over : Name → Term → Term → Going → Going
+  write_over f r t on s = on (written_each r t (candidates (field_key f r) s.heap) s)
 
   -- an amount of a field's location is taken from a heap, where it isn't negative
   abbrev pub take_location : Place → Name → Term → Term → Code → Heap → State → Giving → Tree
@@ -330,8 +346,9 @@ module _ (p : Program) where
         finding x.value k s
         (λ c. with_taken w c.chunk.value (leads_inside c.chunk) (with_heap (reduced c (held_term a) s.heap) s))
         (taking_none (held_term a) (sort of) x.value.place (code x.value.code) s (λ v s1. with_taken w v false s1))
-    going (next'.WriteTo' x k t q n) s =
-        finding x.value k s (λ c. going n (written c (held_term t) s)) (never x.value.place (code x.value.code) s)
+    going (next'.ReadOver' f r q h) s = read_over (string_bytes f.value) (held_term r) (giving h) s
+    going (next'.TakeOver' l q h) s = take_over (string_bytes l.value.field.value) (held_term l.value.receiver) (held_term l.value.amount) (giving h) s
+    going (next'.WriteOver' f r t q n) s = write_over (string_bytes f.value) (held_term r) (held_term t) (going n) s
     going (next'.Fresh' of q w) s = with_taken w (fresh (sort of) s) false (after_fresh s)
     going (next'.Body' x snapshot inside q n) s = body_of x.value (held_term snapshot) inside s (going n)
     going (next'.Back' c q n) s = going n (back_to c.value s)

@@ -54,8 +54,12 @@ pub enum Next {
     /// An amount is taken from the first from this candidate on that is as wanted; else it is 0, and a value of the
     /// sort is new.
     TakeFrom(Rc<Search>, usize, Rc<Term>, Sort, Rc<Taken>),
-    /// A value is written to the first from this candidate on that is as wanted.
-    WriteTo(Rc<Search>, usize, Rc<Term>, Rc<Next>),
+    /// The value of a field at a receiver, over all its candidates, whose sum was asked about.
+    ReadOver(Rc<String>, Rc<Term>, Rc<Hole>),
+    /// A location's amount is taken from all its candidates, whose sum was asked about.
+    TakeOver(Rc<Location>, Rc<Hole>),
+    /// A value is written to a field at a receiver, in all its candidates, whose sum was asked about.
+    WriteOver(Rc<String>, Rc<Term>, Rc<Term>, Rc<Next>),
     /// A new value of a sort, in the place of one that was taken.
     Fresh(Sort, Rc<Taken>),
     /// An instance was taken, whose snapshot this is and from inside or not: its body is produced.
@@ -163,7 +167,9 @@ impl Drop for Next {
                 Next::TakeInstance(_instance, _code, _heap, _hole) => return,
                 Next::ReadFrom(_search, _number, _hole) => return,
                 Next::TakeFrom(_search, _number, _amount, _sort, _taken) => return,
-                Next::WriteTo(_search, _number, _value, rest) => rest,
+                Next::ReadOver(_field, _receiver, _hole) => return,
+                Next::TakeOver(_location, _hole) => return,
+                Next::WriteOver(_field, _receiver, _value, rest) => rest,
                 Next::Fresh(_sort, _taken) => return,
                 Next::Body(_instance, _snapshot, _inner, rest) => rest,
                 Next::Back(_caller, rest) => rest,

@@ -1,13 +1,12 @@
 //! What putting, taking and writing make of a state.
 
-ghost use Rattle.std.specs.Prelude.{◌≡◌, IfOk, slice_set};
+ghost use Rattle.std.specs.Prelude.{◌≡◌, not, IfOk, slice_set};
 ghost use Rattle.vx_heap.specs.Heaps.{over};
 ghost use Rattle.vx_heap.specs.Views.{candidate, chunk as chunk_view, heap, terms_of, held_term};
 ghost use Rattle.vx_rules.specs.Chunks as chunks;
 ghost use Rattle.vx_rules.specs.Chunks.{reduced};
-ghost use Rattle.vx_rules.specs.Rules as rules;
 ghost use Rattle.vx_rules.specs.States as states;
-ghost use Rattle.vx_rules.specs.States.{State, with_facts};
+ghost use Rattle.vx_rules.specs.States.{State, is_quiet, with_facts};
 ghost use Rattle.vx_states.specs.SymStates.{state};
 
 use crate::SymState;
@@ -20,16 +19,17 @@ use vx_terms::Term;
 fn put_into(
     alloc: Global,
     held: &mut Rc<SymHeap>,
+    summed: bool,
     bounded: bool,
     chunk: Chunk,
 ) -> Result<Vec<Rc<Term>>, AllocError>
-    ensures { IfOk result (λ facts. (s : State) → with_facts (terms_of facts.items) (over bounded (heap held.new.value) s) ≡ chunks.put (chunk_view chunk) (over bounded (heap held.old.value) s)) }
+    ensures { IfOk result (λ facts. (s : State) → not (is_quiet s) ≡ summed → with_facts (terms_of facts.items) (over bounded (heap held.new.value) s) ≡ chunks.put (chunk_view chunk) (over bounded (heap held.old.value) s)) }
 {
     match Rc::get_mut(held) {
-        Some(own) => own.put(alloc, bounded, chunk),
+        Some(own) => own.put(alloc, summed, bounded, chunk),
         None => {
             let mut own = held.copy(alloc)?;
-            let facts = own.put(alloc, bounded, chunk)?;
+            let facts = own.put(alloc, summed, bounded, chunk)?;
             *held = Rc::new(alloc, own)?;
             Ok(facts)
         }
@@ -91,7 +91,8 @@ impl SymState {
     pub fn put(&mut self, alloc: Global, chunk: Chunk) -> Result<(), AllocError>
         ensures { IfOk result (λ _. state self.new ≡ chunks.put (chunk_view chunk) (state self.old)) }
     {
-        let facts = put_into(alloc, &mut self.heap, self.is_bounded, chunk)?;
+        let summed = !self.is_quiet();
+        let facts = put_into(alloc, &mut self.heap, summed, self.is_bounded, chunk)?;
         self.add_facts(alloc, facts)
     }
 
@@ -114,7 +115,7 @@ impl SymState {
         to: &Candidate,
         value: Rc<Term>,
     ) -> Result<(), AllocError>
-        ensures { IfOk result (λ _. state self.new ≡ rules.written (candidate to.now) (held_term value) (state self.old)) }
+        ensures { IfOk result (λ _. state self.new ≡ chunks.written (candidate to.now) (held_term value) (state self.old)) }
     {
         let named = self.name(alloc, value)?;
         write_into(alloc, &mut self.heap, to, named)

@@ -12,6 +12,7 @@ mod path;
 mod references;
 mod snapshots;
 mod state;
+mod sums;
 
 pub use entering::Caller;
 pub use indexed::IndexedPath;

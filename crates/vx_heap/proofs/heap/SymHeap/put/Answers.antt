@@ -20,7 +20,7 @@ returns-in-Some-clause-ok c =
     subst (λ ts. IsFirst o h (chosen true (key c.args.new.resource ts) 0 h)) c.deref-2.ensures.value here in
     let some : same new.amount zero_amount ≡ false = ap (λ t. same (term t) zero_amount) (sym c.deref.ensures) ∙ sym c.is_zero.ensures ∙ c.if-is_zero.false in
     IfOk-weaker c.put_into.result _ _
-    (λ facts m s. put_by o c.args.bounded new h (heap c.put_into.new.self) (terms_of facts.items) first m some s)
+    (λ facts m s level. put_by o c.args.summed c.args.bounded new h (heap c.put_into.new.self) (terms_of facts.items) first m some s level)
     c.put_into.ensures.ok
 
 pub returns-in-None-clause-ok : goal.returns-in-None-clause-ok
@@ -33,5 +33,5 @@ returns-in-None-clause-ok c =
     subst (λ ts. IsFirst None h (chosen true (key c.args.new.resource ts) 0 h)) c.deref-2.ensures.value here in
     let some : same new.amount zero_amount ≡ false = ap (λ t. same (term t) zero_amount) (sym c.deref.ensures) ∙ sym c.is_zero.ensures ∙ c.if-is_zero.false in
     IfOk-weaker c.put_beside.result _ _
-    (λ facts m s. put_by None c.args.bounded new h (heap c.put_beside.new.self) (terms_of facts.items) first m some s)
+    (λ facts m s level. put_by None c.args.summed c.args.bounded new h (heap c.put_beside.new.self) (terms_of facts.items) first m some s level)
     c.put_beside.ensures.ok

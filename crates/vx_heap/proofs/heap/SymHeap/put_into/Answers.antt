@@ -5,5 +5,5 @@ use Rattle.vx_heap.proofs.heap.SymHeap.put_into.Goals as goal
 
 pub returns-clause-ok : goal.returns-clause-ok
 returns-clause-ok c =
-    let e = c.in_ok-replace.ensures.ok ∙ ap (λ y. slice_set (heap c.args.self.now) c.args.at (chunk y)) c.in_ok-new.ensures.ok ∙ ap (λ k. slice_set (heap c.args.self.now) c.args.at k) c.in_ok-whole.ensures in
-    rw c.chunk-old.ensures (c.in_ok-facts.ensures c.args.at, e)
+    let e = c.in_ok-replace.ensures.ok ∙ ap (λ y. slice_set (heap c.args.self.now) c.args.at (chunk y)) c.in_ok-whole.ensures.ok ∙ ap (λ k. slice_set (heap c.args.self.now) c.args.at k) c.in_ok-merged.ensures in
+    rw c.chunk-old.ensures (c.in_ok-facts.ensures, e)
