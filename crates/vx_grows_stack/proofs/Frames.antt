@@ -9,9 +9,9 @@ use Rattle.vx_terms.specs.Build.{multiply, unit}
 use Rattle.vx_heap.specs.Views.{heap, terms_of, held_term}
 use Rattle.vx_rules.specs.States.{State, with_heap, leave, fresh, after_fresh}
 use Rattle.vx_rules.specs.Trees.{Step}
-use Rattle.vx_rules.specs.Chunks.{reduced}
+use Rattle.vx_rules.specs.Chunks.{field_key, reduced}
 use Rattle.vx_rules.specs.Codes.{code}
-use Rattle.vx_rules.specs.Rules.{placed, leads_inside, never, written}
+use Rattle.vx_rules.specs.Rules.{field_sort, placed, leads_inside, never}
 use Rattle.vx_rules.specs.Members.{rules, rooted}
 use Rattle.vx_states.specs.SymStates.{optional_term, state}
 use Rattle.vx_states.specs.Entering.{back_to}
@@ -28,7 +28,7 @@ use Rattle.vx_stack.specs.declared.frame.Frame.TheVariants as frame'
 use Rattle.vx_stack.specs.Values.{values}
 use Rattle.vx_stack.specs.Stack.{context, returned, told, verified_body, with_location, with_held, going, with_taken, giving_all, giving, frame_tree}
 use Rattle.vx_grows.proofs.Bases.{itself}
-use Rattle.vx_grows.proofs.GrowSteps.{GrowsIn, Follows, FollowsWith, FollowsAll, earlier, never_grows, written_later}
+use Rattle.vx_grows.proofs.GrowSteps.{GrowsIn, Follows, FollowsWith, FollowsAll, earlier, never_grows, taking_all_grows, reading_all_grows, writing_all_grows}
 use Rattle.vx_grows.proofs.GrowParts.{OuterGrows, applied_grows, unfolded_grows}
 use Rattle.vx_grows.proofs.GrowAssertions.{eval_grows, evals_grows, consume_grows}
 use Rattle.vx_grows.proofs.GrowStatements.{folded_grows, calling_grows, exec_grows, exec_all_grows}
@@ -72,9 +72,12 @@ module _ (p : Program) where
     going_grows (next'.TakeFrom' x k a of q w) s =
         finding_grows x.value k s _ _ (λ c. with_taken_grows w c.chunk.value (leads_inside c.chunk) (with_heap (reduced c (held_term a) s.heap) s))
         (none_grows (held_term a) (sort of) x.value.place (code x.value.code) s (λ v s1. with_taken p w v false s1) (λ v s1. with_taken_grows w v false s1))
-    going_grows (next'.WriteTo' x k t q n) s =
-        finding_grows x.value k s (λ c. going p n (written c (held_term t) s)) (never x.value.place (code x.value.code) s)
-        (λ c. earlier (written_later c (held_term t) s) (going p n (written c (held_term t) s)) (going_grows n (written c (held_term t) s))) (never_grows s x.value.place (code x.value.code))
+    going_grows (next'.ReadOver' f r q h) s =
+        reading_all_grows s (string_bytes f.value) (held_term r) (field_sort p (string_bytes f.value)) (giving p h) (giving_grows h)
+    going_grows (next'.TakeOver' l q h) s =
+        let f = string_bytes l.value.field.value in
+        taking_all_grows s (field_key f (held_term l.value.receiver)) (held_term l.value.amount) (field_sort p f) (λ k s1. giving p h k.value s1) (λ k s1. giving_grows h k.value s1)
+    going_grows (next'.WriteOver' f r t q n) s = writing_all_grows s (string_bytes f.value) (held_term r) (held_term t) (going p n) (going_grows n)
     going_grows (next'.Fresh' of q w) s = with_taken_grows w (fresh (sort of) s) false (after_fresh s)
     going_grows (next'.Body' x snapshot inside q n) s = body_of_grows p x.value (held_term snapshot) inside s (going p n) (going_grows n)
     going_grows (next'.Back' c q n) s = going_grows n (back_to c.value s)

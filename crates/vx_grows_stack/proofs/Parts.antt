@@ -10,9 +10,9 @@ use Rattle.vx_terms.specs.Build.{negate, equals, less_equal, wrap, zero_amount}
 use Rattle.vx_heap.specs.Views.{candidates_of, held_term}
 use Rattle.vx_rules.specs.States.{Heap, State, bind, is_quiet, with_heap, fresh, after_fresh, name_of, after_name}
 use Rattle.vx_rules.specs.Trees.{Code, AmountCode, DivisorCode, MeasureCode, UnfoldCode, Tree, End, Step}
-use Rattle.vx_rules.specs.Chunks.{field_key, instance_key, Candidate, candidates, only_inner}
+use Rattle.vx_rules.specs.Chunks.{field_key, instance_key, Candidate, candidates, holds_some, only_inner}
 use Rattle.vx_rules.specs.Codes.{code}
-use Rattle.vx_rules.specs.Rules.{Giving, Going, Context, ask, never, holds_some, field_sort, placed, with_built_wrap, produced_value, after_value, produced_snapshot, after_snapshot, entered, back}
+use Rattle.vx_rules.specs.Rules.{Giving, Going, Context, ask, never, field_sort, placed, with_built_wrap, produced_value, after_value, produced_snapshot, after_snapshot, entered, back}
 use Rattle.vx_rules.specs.Members.{rules}
 use Rattle.vx_stack.specs.declared.waiting.Search.{Search}
 use Rattle.vx_stack.specs.declared.waiting.Application.{Application}

@@ -9,7 +9,7 @@ use Rattle.vx_heap.specs.Views.{heap, held_term}
 use Rattle.vx_rules.specs.States.{State, with_store, with_heap, assign, declare_all, terms_in, leave, with_fact, with_branch, name_of, after_name}
 use Rattle.vx_rules.specs.Trees.{AmountCode, MeasureCode, KeptCode, End, Step}
 use Rattle.vx_rules.specs.Codes.{code}
-use Rattle.vx_rules.specs.Rules.{Giving, Going, operated, divided, connected, lesser, placed, with_built_pair, with_unit, unfolded, eval, evals, consume}
+use Rattle.vx_rules.specs.Rules.{Giving, Going, operated, divided, connected, field_sort, lesser, placed, with_built_pair, with_unit, unfolded, eval, evals, consume}
 use Rattle.vx_rules.specs.Members.{codes, folded, exec_all, rules}
 use Rattle.vx_states.specs.SymStates.{optional_term}
 use Rattle.vx_states.specs.Entering.{back_to}
@@ -56,7 +56,7 @@ module _ (p : Program) where
   operand_grows (operand'.ChooseSides a b) on h t s =
       fork_grows s t (λ s1. eval p (rules p) (expr a.value) s1 on) (λ s1. eval p (rules p) (expr b.value) s1 on)
       (λ s1. eval_grows p (rules p) below (expr a.value) s1 on h) (λ s1. eval_grows p (rules p) below (expr b.value) s1 on h)
-  operand_grows (operand'.Receiver at f) on h r s = read_grows s (string_bytes f.value) r (placed s at) on h
+  operand_grows (operand'.Receiver at f) on h r s = read_grows s (string_bytes f.value) r (field_sort p (string_bytes f.value)) (placed s at) on h
   operand_grows (operand'.Restore k) on h t s = h t (with_heap (heap k.value) s)
   operand_grows (operand'.Unfolding at i es e k) on h a s =
       let inside = λ (s3 : State). eval p (rules p) (expr e.value) s3 (λ t s4. Step (on t (with_heap (heap k.value) s4))) in

@@ -1,4 +1,4 @@
-//! What a side comes to, once it is back from the parts of other members.
+//! What a side comes to, once it is back from the parts of other members and has written over all chunks of a location.
 
 ghost use Rattle.std.specs.Prelude.{◌≡◌, IfOk, false, true};
 ghost use Rattle.vx_ast.specs.Syntax.{Program};
@@ -22,7 +22,7 @@ pub(crate) enum Ready {
     Plain(Frame, SymState),
 }
 
-/// What waits for a state, back from the parts of other members.
+/// What waits for a state, back from the parts of other members and with what is written over all chunks.
 fn ready_next(alloc: Global, next: &Rc<Next>, state: SymState) -> Result<Ready, AllocError>
     ensures { IfOk result (λ r. (p : Program) → IsReady p (going p next.now.value (state_of state)) r) }
 {
@@ -30,6 +30,10 @@ fn ready_next(alloc: Global, next: &Rc<Next>, state: SymState) -> Result<Ready, 
         Next::Back(caller, rest) => {
             let mut state = state;
             state.back(alloc, caller)?;
+            ready_next(alloc, rest, state)
+        }
+        Next::WriteOver(field, receiver, value, rest) => {
+            let state = vx_sums::write_over(alloc, field, receiver, value, state)?;
             ready_next(alloc, rest, state)
         }
         Next::Impossible => Ok(Ready::Over),

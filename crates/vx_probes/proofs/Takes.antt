@@ -8,9 +8,10 @@ use Rattle.vx_ast.specs.declared.Place.{Place}
 use Rattle.vx_ast.specs.Syntax.{Name, Program, Predicate, Assertion, predicate_named}
 use Rattle.vx_heap.specs.declared.chunk.Resource.TheVariants as resource
 use Rattle.vx_heap.specs.Views.{key, terms_of}
-use Rattle.vx_rules.specs.Chunks.{candidates, field_key, instance_key, reduced}
+use Rattle.vx_probes.specs.Firsts.{take_first}
+use Rattle.vx_rules.specs.Chunks.{candidates, field_key, holds_amount, instance_key, reduced}
 use Rattle.vx_rules.specs.Members.{rules}
-use Rattle.vx_rules.specs.Rules.{Going, back, entered, first_with, holds_amount, leads_inside, never, question, take_chunk, take_fresh, unfolded, unless_false}
+use Rattle.vx_rules.specs.Rules.{Going, back, entered, first_with, leads_inside, never, question, take_fresh, unfolded, unless_false}
 use Rattle.vx_rules.specs.States.{Chunk, State, after_fresh, bind, fresh, is_known, is_quiet, with_entry, with_heap}
 use Rattle.vx_rules.specs.Trees.{Code, Tree, End, Step, Ask, UnfoldCode}
 use Rattle.vx_stack.specs.Stack.{exchanged}
@@ -20,14 +21,14 @@ use Rattle.vx_terms.specs.Sorts.{Sort, SnapSort}
 use Rattle.vx_terms.specs.Terms.{Term, same}
 
 pub takes : (k l : Chunk) (t a : Term) (n o : Sort) (at place : Place) (c : Code) (s1 s : State) (on other : Chunk → State → Tree) →
-    k ≡ l → t ≡ a → n ≡ o → at ≡ place → s1 ≡ s → on ≡ other → take_chunk k t n at c s1 on ≡ take_chunk l a o place c s other
+    k ≡ l → t ≡ a → n ≡ o → at ≡ place → s1 ≡ s → on ≡ other → take_first k t n at c s1 on ≡ take_first l a o place c s other
 takes k l t a n o at place c s1 s on other e f g h i j =
-    ap (λ y. take_chunk y t n at c s1 on) e
-    ∙ ap (λ y. take_chunk l y n at c s1 on) f
-    ∙ ap (λ y. take_chunk l a y at c s1 on) g
-    ∙ ap (λ y. take_chunk l a o y c s1 on) h
-    ∙ ap (λ y. take_chunk l a o place c y on) i
-    ∙ ap (λ (y : Chunk → State → Tree). take_chunk l a o place c s y) j
+    ap (λ y. take_first y t n at c s1 on) e
+    ∙ ap (λ y. take_first l y n at c s1 on) f
+    ∙ ap (λ y. take_first l a y at c s1 on) g
+    ∙ ap (λ y. take_first l a o y c s1 on) h
+    ∙ ap (λ y. take_first l a o place c y on) i
+    ∙ ap (λ (y : Chunk → State → Tree). take_first l a o place c s y) j
 
 pub key_of_field : (x y : Rc (String Global) Global) (ts : List (Rc Term' Global)) (r : Term) → x.value ≡ y.value → terms_of ts ≡ r ∷ [] → key (resource.Field x) ts ≡ field_key (string_bytes y.value) r
 key_of_field x y ts r e f =
@@ -71,7 +72,7 @@ module _ (p : Program) (at : Place) (i : Name) (ts : List Term) (a : Term) (on :
       (after_fact s (is_known missing s))
 
   pub exchanged_once_taken : (s : State) →
-      unfolded p (rules p) at i ts a s on ≡ take_chunk (instance_key i ts) a SnapSort at UnfoldCode s (λ k s1. exchanged p at i ts a k.value (leads_inside k) s1 on)
+      unfolded p (rules p) at i ts a s on ≡ take_first (instance_key i ts) a SnapSort at UnfoldCode s (λ k s1. exchanged p at i ts a k.value (leads_inside k) s1 on)
   exchanged_once_taken s =
       ap (λ t.
       first_with (holds_amount a ts) (candidates (instance_key i ts) s.heap) at UnfoldCode s (λ c. inside s c.chunk (with_heap (reduced c a s.heap) s)) t)

@@ -1,7 +1,8 @@
-//! The first probe of a location: its candidates are those of the heap as it is.
+//! The first probe of a location or an instance: its candidates are those of the heap as it is.
 
-ghost use Rattle.std.specs.Prelude.{◌≡◌, [], ◌∷◌, Some, None, Option, IfOk, string_bytes};
+ghost use Rattle.std.specs.Prelude.{◌≡◌, [], ◌∷◌, None, IfOk, string_bytes};
 ghost use Rattle.vx_heap.specs.Views.{candidates_of, heap as heap_of, key, terms_of, held_term};
+ghost use Rattle.vx_probes.specs.Firsts.{read_first, take_first};
 ghost use Rattle.vx_resolved.specs.Settled.{settled};
 ghost use Rattle.vx_rules.specs.Chunks as chunks;
 ghost use Rattle.vx_rules.specs.Chunks.{field_key};
@@ -14,11 +15,11 @@ ghost use Rattle.vx_stack.specs.Values.{values};
 ghost use Rattle.vx_states.specs.SymStates.{optional_term, state as state_of};
 ghost use Rattle.vx_terms.specs.Views.{sort as sort_of};
 
-use crate::probes::{read_from, take_from, write_to};
+use crate::probes::{read_from, take_from};
 use std::alloc::{AllocError, Global};
 use std::rc::Rc;
 use vx_ast::Place;
-use vx_heap::{Resource, SymHeap, whole};
+use vx_heap::{Resource, SymHeap};
 use vx_resolved::Settled;
 use vx_rules::Code;
 use vx_stack::{Conts, Hole, Instance, Location, Move, Next, Search, Taken, field_sort};
@@ -54,19 +55,18 @@ fn search(
     )?)
 }
 
-/// What is looked for at a location: some amount, or this one.
+/// What is looked for at a location: some amount.
 fn search_field(
     alloc: Global,
     place: Place,
     field: &Rc<String>,
     receiver: Rc<Term>,
-    amount: Option<Rc<Term>>,
     heap: &SymHeap,
 ) -> Result<Rc<Search>, AllocError>
     ensures place { IfOk result (λ s. s.value.place ≡ place) }
     ensures code { IfOk result (λ s. code_of s.value.code ≡ PermissionCode) }
     ensures arguments { IfOk result (λ s. terms_of s.value.arguments.items ≡ held_term receiver ∷ []) }
-    ensures amount { IfOk result (λ s. optional_term s.value.amount ≡ optional_term amount) }
+    ensures amount { IfOk result (λ s. optional_term s.value.amount ≡ None) }
     ensures candidates { IfOk result (λ s. candidates_of s.value.candidates.items ≡ chunks.candidates (field_key (string_bytes field.now.value) (held_term receiver)) (heap_of heap.now)) }
 {
     let mut arguments = Vec::new(alloc);
@@ -78,9 +78,26 @@ fn search_field(
         Code::Permission,
         &resource,
         arguments,
-        amount,
+        None,
         heap,
     )
+}
+
+/// A location is read in the first chunk that has some of it.
+fn probe_field(
+    alloc: Global,
+    program: &Settled,
+    place: Place,
+    field: &Rc<String>,
+    receiver: Rc<Term>,
+    hole: &Rc<Hole>,
+    state: SymState,
+    conts: &mut Conts,
+) -> Result<Move, AllocError>
+    ensures { IfOk result (λ m. Stepped (settled program.now) (read_first (string_bytes field.now.value) (held_term receiver) place (state_of state) (giving (settled program.now) hole.now.value)) conts.old.sides.items m conts.new.sides.items) }
+{
+    let wanted = search_field(alloc, place, field, receiver, &state.heap)?;
+    read_from(alloc, program, &wanted, 0, hole, state, conts)
 }
 
 /// A location is read.
@@ -94,32 +111,16 @@ pub fn read_field(
     state: SymState,
     conts: &mut Conts,
 ) -> Result<Move, AllocError>
-    ensures { IfOk result (λ m. Stepped (settled program.now) (rule.read_field (string_bytes field.now.value) (held_term receiver) place (state_of state) (giving (settled program.now) hole.now.value)) conts.old.sides.items m conts.new.sides.items) }
+    ensures { IfOk result (λ m. Stepped (settled program.now) (rule.read_field (string_bytes field.now.value) (held_term receiver) (rule.field_sort (settled program.now) (string_bytes field.now.value)) place (state_of state) (giving (settled program.now) hole.now.value)) conts.old.sides.items m conts.new.sides.items) }
 {
-    let wanted = search_field(alloc, place, field, receiver, None, &state.heap)?;
-    read_from(alloc, program, &wanted, 0, hole, state, conts)
+    if state.is_quiet() {
+        probe_field(alloc, program, place, field, receiver, hole, state, conts)
+    } else {
+        vx_sums::read(alloc, program, place, field, receiver, hole, state, conts)
+    }
 }
 
-/// A location is written.
-pub fn write_field(
-    alloc: Global,
-    program: &Settled,
-    place: Place,
-    field: &Rc<String>,
-    receiver: Rc<Term>,
-    value: &Rc<Term>,
-    next: &Rc<Next>,
-    state: SymState,
-    conts: &mut Conts,
-) -> Result<Move, AllocError>
-    ensures { IfOk result (λ m. Stepped (settled program.now) (rule.write_field (string_bytes field.now.value) (held_term receiver) (held_term value.now) place (state_of state) (going (settled program.now) next.now.value)) conts.old.sides.items m conts.new.sides.items) }
-{
-    let all = Some(whole(alloc)?);
-    let wanted = search_field(alloc, place, field, receiver, all, &state.heap)?;
-    write_to(alloc, program, &wanted, 0, value, next, state, conts)
-}
-
-/// An amount of a location or an instance is taken from the heap.
+/// An amount of a location or an instance is taken from the first chunk that has it.
 fn take(
     alloc: Global,
     program: &Settled,
@@ -133,7 +134,7 @@ fn take(
     state: SymState,
     conts: &mut Conts,
 ) -> Result<Move, AllocError>
-    ensures { IfOk result (λ m. Stepped (settled program.now) (rule.take_chunk (key resource.now arguments.items) (held_term amount.now) (sort_of of.now) place (code_of code) (state_of state) (λ k s. with_taken (settled program.now) after k.value (rule.leads_inside k) s)) conts.old.sides.items m conts.new.sides.items) }
+    ensures { IfOk result (λ m. Stepped (settled program.now) (take_first (key resource.now arguments.items) (held_term amount.now) (sort_of of.now) place (code_of code) (state_of state) (λ k s. with_taken (settled program.now) after k.value (rule.leads_inside k) s)) conts.old.sides.items m conts.new.sides.items) }
 {
     let all = Some(amount.clone()?);
     let wanted = search(alloc, place, code, resource, arguments, all, &state.heap)?;
@@ -141,22 +142,19 @@ fn take(
     take_from(alloc, program, &wanted, 0, amount, of, &after, state, conts)
 }
 
-/// An amount of a location is taken from a heap.
-pub fn take_location(
+/// An amount of a location is taken from the first chunk that has it.
+fn probe_location(
     alloc: Global,
     program: &Settled,
-    location: &Location,
+    place: Place,
     code: Code,
-    heap: &Rc<SymHeap>,
+    location: &Location,
     hole: &Rc<Hole>,
     state: SymState,
     conts: &mut Conts,
 ) -> Result<Move, AllocError>
-    ensures { IfOk result (λ m. Stepped (settled program.now) (taking_location (settled program.now) location.now.place (string_bytes location.now.field.value) (held_term location.now.receiver) (held_term location.now.amount) (code_of code) (heap_of heap.now.value) (state_of state) (giving (settled program.now) hole.now.value)) conts.old.sides.items m conts.new.sides.items) }
+    ensures { IfOk result (λ m. Stepped (settled program.now) (take_first (field_key (string_bytes location.now.field.value) (held_term location.now.receiver)) (held_term location.now.amount) (rule.field_sort (settled program.now) (string_bytes location.now.field.value)) place (code_of code) (state_of state) (λ k s. giving (settled program.now) hole.now.value k.value s)) conts.old.sides.items m conts.new.sides.items) }
 {
-    let place = state.placed(location.place);
-    let mut state = state;
-    let _before = state.exchange_heap(heap.clone()?);
     let mut arguments = Vec::new(alloc);
     arguments.push(location.receiver.clone()?)?;
     let resource = Resource::Field(location.field.clone()?);
@@ -175,6 +173,29 @@ pub fn take_location(
         state,
         conts,
     )
+}
+
+/// An amount of a location is taken from a heap.
+pub fn take_location(
+    alloc: Global,
+    program: &Settled,
+    location: &Rc<Location>,
+    code: Code,
+    heap: &Rc<SymHeap>,
+    hole: &Rc<Hole>,
+    state: SymState,
+    conts: &mut Conts,
+) -> Result<Move, AllocError>
+    ensures { IfOk result (λ m. Stepped (settled program.now) (taking_location (settled program.now) location.now.value.place (string_bytes location.now.value.field.value) (held_term location.now.value.receiver) (held_term location.now.value.amount) (code_of code) (heap_of heap.now.value) (state_of state) (giving (settled program.now) hole.now.value)) conts.old.sides.items m conts.new.sides.items) }
+{
+    let place = state.placed(location.place);
+    let mut state = state;
+    let _before = state.exchange_heap(heap.clone()?);
+    if state.is_quiet() {
+        probe_location(alloc, program, place, code, location, hole, state, conts)
+    } else {
+        vx_sums::take(alloc, program, place, code, location, hole, state, conts)
+    }
 }
 
 /// An amount of an instance is taken from a heap.

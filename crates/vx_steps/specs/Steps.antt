@@ -1,4 +1,5 @@
--- What a step is made from: neither an impossible end, nor the way back from a part, nor what an application tells.
+-- What a step is made from: neither an impossible end, nor the way back from a part, nor a value that is written over all chunks, nor what
+-- an application tells.
 use Rattle.std.specs.Prelude.{Bool, true, false}
 use Rattle.vx_stack.specs.declared.frame.Next.{Next}
 use Rattle.vx_stack.specs.declared.frame.Next.TheVariants as next'
@@ -7,6 +8,7 @@ use Rattle.vx_stack.specs.declared.frame.Frame.TheVariants as frame'
 
 abbrev pub is_step : Next → Bool
 is_step next'.Impossible = false
+is_step (next'.WriteOver' f r t q n) = false
 is_step (next'.Back' c q n) = false
 is_step (next'.Tell' x q h) = false
 is_step n = true

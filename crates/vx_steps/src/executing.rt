@@ -11,7 +11,6 @@ use std::rc::Rc;
 use vx_members::{
     at_returns, postcondition, step_fold_amount, step_folded, step_unfold_amount, way_back,
 };
-use vx_probes::write_field;
 use vx_resolved::Settled;
 use vx_stack::{Called, Conts, Executed, Move, Next, Production};
 use vx_states::SymState;
@@ -50,7 +49,7 @@ pub fn step_executed(
     ensures { IfOk result (λ m. Stepped (settled program.now) (executed_of (settled program.now) executed.now (going (settled program.now) next.now.value) (held_term value) (state_of state)) conts.old.sides.items m conts.new.sides.items) }
 {
     match executed {
-        Executed::WriteWith(place, field, receiver) => write_field(
+        Executed::WriteWith(place, field, receiver) => vx_sums::write(
             alloc,
             program,
             *place,

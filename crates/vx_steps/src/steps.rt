@@ -6,7 +6,7 @@ ghost use Rattle.vx_rules.specs.Members.{both_sides, rules, sides};
 ghost use Rattle.vx_rules.specs.Rules.{unfolded};
 ghost use Rattle.vx_rules.specs.States.{after_fresh, fresh};
 ghost use Rattle.vx_rules.specs.Trees as tree;
-ghost use Rattle.vx_stack.specs.Stack.{concluding, giving, giving_all, going, frame_tree, Stepped, with_taken};
+ghost use Rattle.vx_stack.specs.Stack.{concluding, giving, giving_all, going, frame_tree, Stepped, read_over, take_over, with_taken};
 ghost use Rattle.vx_stack.specs.Values.{values as values_of};
 ghost use Rattle.vx_states.specs.SymStates.{state as state_of};
 ghost use Rattle.vx_heap.specs.Views.{held_term};
@@ -25,8 +25,8 @@ use vx_members::Promise;
 use vx_resolved::{Method, Settled};
 use vx_rules::Code;
 use vx_stack::{
-    Codes, Conts, Frame, Hole, Left, Move, Next, Row, Taken, Values, Verified, as_assertion,
-    conjoined,
+    Codes, Conts, Frame, Hole, Left, Location, Move, Next, Row, Taken, Values, Verified,
+    as_assertion, conjoined,
 };
 use vx_states::SymState;
 use vx_terms::{Sort, Term};
@@ -164,6 +164,37 @@ fn step_fresh(
     step_taken(alloc, program, value, taken, state, conts)
 }
 
+/// The value of a location over all its chunks goes on to what waits for it.
+fn step_read_over(
+    alloc: Global,
+    program: &Settled,
+    field: &Rc<String>,
+    receiver: &Rc<Term>,
+    hole: &Hole,
+    state: SymState,
+    conts: &mut Conts,
+) -> Result<Move, AllocError>
+    ensures { IfOk result (λ m. Stepped (settled program.now) (read_over (settled program.now) (string_bytes field.now.value) (held_term receiver.now) (giving (settled program.now) hole.now) (state_of state)) conts.old.sides.items m conts.new.sides.items) }
+{
+    let Left { value, state } = vx_sums::read_over(alloc, program, field, receiver, state)?;
+    step_hole(alloc, program, value, hole, state, conts)
+}
+
+/// The value of what is taken from all chunks of a location goes on to what waits for it.
+fn step_take_over(
+    alloc: Global,
+    program: &Settled,
+    location: &Location,
+    hole: &Hole,
+    state: SymState,
+    conts: &mut Conts,
+) -> Result<Move, AllocError>
+    ensures { IfOk result (λ m. Stepped (settled program.now) (take_over (settled program.now) (string_bytes location.now.field.value) (held_term location.now.receiver) (held_term location.now.amount) (giving (settled program.now) hole.now) (state_of state)) conts.old.sides.items m conts.new.sides.items) }
+{
+    let Left { value, state } = vx_sums::take_over(alloc, program, location, state)?;
+    step_hole(alloc, program, value, hole, state, conts)
+}
+
 /// The value that stands before these goes on with them.
 fn step_after(
     alloc: Global,
@@ -292,9 +323,13 @@ fn step_next(
         Next::TakeFrom(search, number, amount, of, taken) => vx_probes::take_from(
             alloc, program, search, *number, amount, of, taken, state, conts,
         ),
-        Next::WriteTo(search, number, value, next) => vx_probes::write_to(
-            alloc, program, search, *number, value, next, state, conts,
-        ),
+        Next::ReadOver(field, receiver, hole) => {
+            step_read_over(alloc, program, field, receiver, hole, state, conts)
+        }
+        Next::TakeOver(location, hole) => {
+            step_take_over(alloc, program, location, hole, state, conts)
+        }
+        Next::WriteOver(_field, _receiver, _value, _next) => unreachable!(),
         Next::Fresh(of, taken) => step_fresh(alloc, program, of, taken, state, conts),
         Next::Body(instance, snapshot, is_inner, next) => vx_produce::step_body(
             alloc, program, instance, snapshot, *is_inner, next, state, conts,
@@ -313,7 +348,7 @@ fn step_next(
     }
 }
 
-/// One step of a side that is no end, isn't back from a part, and tells of no application.
+/// One step of a side that is no end, isn't back from a part, writes over no chunks, and tells of no application.
 pub fn step(
     alloc: Global,
     program: &Settled,

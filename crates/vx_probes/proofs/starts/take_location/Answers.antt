@@ -1,36 +1,49 @@
-use Rattle.std.proofs.Common.{◌≡◌, ◌∙◌, ◌++◌, ap, sym, refl, [], ◌∷◌}
+use Rattle.std.proofs.Common.{◌≡◌, ◌∙◌, ap, sym, true, false, [], ◌∷◌}
 use Rattle.std.specs.Prelude.{string_bytes}
+use Rattle.vx_ast.specs.declared.Place.{Place}
 use Rattle.vx_resolved.specs.Settled.{settled}
-use Rattle.vx_heap.specs.declared.chunk.Resource.TheVariants as resource
-use Rattle.vx_heap.specs.Views.{heap, key, terms_of, held_term}
+use Rattle.vx_heap.specs.Views.{heap, held_term}
 use Rattle.vx_rules.specs.Chunks.{field_key}
 use Rattle.vx_rules.specs.Codes.{code}
 use Rattle.vx_rules.specs.Rules.{field_sort, placed}
-use Rattle.vx_rules.specs.States.{Chunk, State, with_heap}
-use Rattle.vx_rules.specs.Trees.{Tree}
+use Rattle.vx_rules.specs.States.{State, is_quiet, with_heap}
+use Rattle.vx_probes.specs.Firsts.{take_first}
+use Rattle.vx_stack.specs.declared.waiting.Location.{Location}
 use Rattle.vx_states.specs.SymStates.{state}
-use Rattle.vx_stack.specs.declared.frame.Hole.{Hole}
 use Rattle.vx_stack.specs.Stack.{giving}
-use Rattle.vx_terms.specs.Views.{sort, term}
 use Rattle.vx_probes.proofs.Firsts.{stepped_by}
-use Rattle.vx_probes.proofs.Takes.{key_of_field, takes}
+use Rattle.vx_probes.proofs.Levels.{take_summed, takes_location}
 use Rattle.vx_probes.proofs.starts.take_location.Goals as goal
+
+pub returns-then-is_quiet : goal.returns-then-is_quiet
+returns-then-is_quiet c =
+    let p = settled c.args.program.now in
+    let l = c.args.location.now.value in
+    let before : State = state c.args.state in
+    let s : State = with_heap (heap c.args.heap.now.value) before in
+    let there : state c.exchange_heap-before.new.self ≡ s = c.exchange_heap-before.ensures.after ∙ ap (λ y. with_heap (heap y) before) c.in_ok-clone.ensures.cases in
+    let at : c.placed-place.result ≡ placed before l.place = c.placed-place.ensures ∙ ap (λ (y : Location). placed before y.place) c.deref.ensures in
+    let on = giving p c.args.hole.now.value in
+    let first = λ (y : Location) (at : Place) (z : State). take_first (field_key (string_bytes y.field.value) (held_term y.receiver)) (held_term y.amount) (field_sort p (string_bytes y.field.value)) at (code c.args.code) z (λ k s1. on k.value s1) in
+    stepped_by p c.probe_location.result _ _ _ c.probe_location.ensures _
+    (takes_location p (string_bytes l.field.value) (held_term l.receiver) (placed before l.place) s on (held_term l.amount) (code c.args.code) true
+    (ap (λ (z : State). is_quiet z) (sym there) ∙ sym c.is_quiet.ensures ∙ c.if-is_quiet.true)
+    ∙ ap (λ y. first y (placed before l.place) s) (sym c.deref-then-is_quiet.ensures)
+    ∙ ap (λ y. first c.deref-then-is_quiet.result.now y s) (sym at)
+    ∙ ap (λ z. first c.deref-then-is_quiet.result.now c.placed-place.result z) (sym there))
 
 pub returns : goal.returns
 returns c =
     let p = settled c.args.program.now in
-    let l = c.args.location.now in
-    let f = string_bytes l.field.value in
-    let a = held_term l.amount in
-    let r = held_term l.receiver in
-    let before = state c.args.state in
-    let s = with_heap (heap c.args.heap.now.value) before in
-    let items = c.push.new.self.items in
+    let l = c.args.location.now.value in
+    let before : State = state c.args.state in
+    let s : State = with_heap (heap c.args.heap.now.value) before in
     let there : state c.exchange_heap-before.new.self ≡ s = c.exchange_heap-before.ensures.after ∙ ap (λ y. with_heap (heap y) before) c.in_ok-clone.ensures.cases in
-    let receiver : terms_of items ≡ r ∷ [] = ap terms_of c.in_ok-push.ensures.items ∙ ap (λ ts. terms_of (ts ++ c.in_ok-clone-2.field-0 ∷ [])) c.new-arguments.ensures.items ∙ ap (λ y. term y ∷ []) c.in_ok-clone-2.ensures.cases in
-    let on = λ (h : Hole) (k : Chunk) (s1 : State). giving p h k.value s1 in
+    let at : c.placed-place.result ≡ placed before l.place = c.placed-place.ensures ∙ ap (λ (y : Location). placed before y.place) c.deref.ensures in
+    let on = giving p c.args.hole.now.value in
+    let summed = λ (at : Place) (z : State). take_summed p (string_bytes l.field.value) (held_term l.receiver) at z on (held_term l.amount) (code c.args.code) in
     stepped_by p c.take.result _ _ _ c.take.ensures _
-    (sym (takes (key (resource.Field c.in_ok-clone-3.field-0) items) (field_key f r) a a (sort c.field_sort-of.result) (field_sort p f) c.placed-place.result (placed before l.place) (code c.args.code) (state c.exchange_heap-before.new.self) s
-    (on c.in_ok-clone-4.field-0.value) (on c.args.hole.now.value)
-    (key_of_field c.in_ok-clone-3.field-0 l.field items r c.in_ok-clone-3.ensures.cases receiver) refl c.field_sort-of.ensures c.placed-place.ensures there
-    (ap {B = Chunk → State → Tree} on c.in_ok-clone-4.ensures.cases)))
+    (takes_location p (string_bytes l.field.value) (held_term l.receiver) (placed before l.place) s on (held_term l.amount) (code c.args.code) false
+    (ap (λ (z : State). is_quiet z) (sym there) ∙ sym c.is_quiet.ensures ∙ c.if-is_quiet.false)
+    ∙ ap (λ y. summed y s) (sym at)
+    ∙ ap (λ z. summed c.placed-place.result z) (sym there))

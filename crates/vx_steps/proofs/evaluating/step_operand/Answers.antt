@@ -1,6 +1,6 @@
 use Rattle.std.proofs.Common.{◌∙◌, ap, sym, string_bytes}
 use Rattle.vx_resolved.specs.Settled.{settled}
-use Rattle.vx_rules.specs.Rules.{Giving, placed}
+use Rattle.vx_rules.specs.Rules.{Giving, field_sort, placed}
 use Rattle.vx_rules.specs.States.{State, after_name, name_of, with_heap}
 use Rattle.vx_states.specs.SymStates.{state}
 use Rattle.vx_states.specs.declared.entering.Caller.{Caller}
@@ -15,7 +15,7 @@ pub returns-in-Receiver : goal.returns-in-Receiver
 returns-in-Receiver c =
     let p = settled c.args.program.now in
     stepped_as p _ _ _ _ _
-    (rw c.in-Receiver.is (sym (reads (string_bytes c.in-Receiver.field.value) (held_term c.args.value) c.placed-place.result (placed (state c.args.state) c.in-Receiver.at) (state c.args.state) (giving p c.args.hole.now.value) c.placed-place.ensures)))
+    (rw c.in-Receiver.is (sym (reads (string_bytes c.in-Receiver.field.value) (held_term c.args.value) (field_sort p (string_bytes c.in-Receiver.field.value)) c.placed-place.result (placed (state c.args.state) c.in-Receiver.at) (state c.args.state) (giving p c.args.hole.now.value) c.placed-place.ensures)))
     c.read_field.ensures
 
 pub returns-in-Applied : goal.returns-in-Applied

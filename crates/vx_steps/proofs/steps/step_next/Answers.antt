@@ -5,9 +5,10 @@ use Rattle.vx_resolved.specs.Settled.{settled}
 use Rattle.vx_rules.specs.Members.{rules, sides}
 use Rattle.vx_rules.specs.Codes.{code}
 use Rattle.vx_rules.specs.States.{State}
+use Rattle.vx_stack.specs.declared.frame.Hole.{Hole}
 use Rattle.vx_stack.specs.declared.waiting.Location.{Location}
 use Rattle.vx_stack.specs.declared.waiting.Instance.{Instance}
-use Rattle.vx_stack.specs.Stack.{giving, going, take_instance, take_location}
+use Rattle.vx_stack.specs.Stack.{giving, going, read_over, take_instance, take_over}
 use Rattle.vx_stack.specs.Values.{values}
 use Rattle.vx_states.specs.SymStates.{state}
 use Rattle.vx_stack.proofs.Steps.{stepped_as}
@@ -44,9 +45,7 @@ returns-in-Take c =
     let p = settled c.args.program.now in
     let s : State = state c.args.state in
     let it = c.in-Take in
-    stepped_as p _ _ _ _ _
-    (ap (λ n. going p n s) it.is
-    ∙ ap (λ (l : Location). take_location p l.place (string_bytes l.field.value) (held_term l.receiver) (held_term l.amount) (code it.code) (heap it.heap.value) s (giving p it.hole.value)) (sym c.deref-in-Take.ensures)) c.take_location.ensures
+    stepped_as p _ _ _ _ _ (ap (λ n. going p n s) it.is) c.take_location.ensures
 
 pub returns-in-ReadFrom : goal.returns-in-ReadFrom
 returns-in-ReadFrom c =
@@ -60,11 +59,24 @@ returns-in-TakeFrom c =
     let s : State = state c.args.state in
     stepped_as p _ _ _ _ _ (ap (λ n. going p n s) c.in-TakeFrom.is) c.take_from.ensures
 
-pub returns-in-WriteTo : goal.returns-in-WriteTo
-returns-in-WriteTo c =
+pub returns-in-ReadOver : goal.returns-in-ReadOver
+returns-in-ReadOver c =
     let p = settled c.args.program.now in
     let s : State = state c.args.state in
-    stepped_as p _ _ _ _ _ (ap (λ n. going p n s) c.in-WriteTo.is) c.write_to.ensures
+    let it = c.in-ReadOver in
+    stepped_as p _ _ _ _ _
+    (ap (λ n. going p n s) it.is
+    ∙ ap (λ (h : Hole). read_over p (string_bytes it.field.value) (held_term it.receiver) (giving p h) s) (sym c.deref-in-ReadOver.ensures)) c.step_read_over.ensures
+
+pub returns-in-TakeOver : goal.returns-in-TakeOver
+returns-in-TakeOver c =
+    let p = settled c.args.program.now in
+    let s : State = state c.args.state in
+    let it = c.in-TakeOver in
+    stepped_as p _ _ _ _ _
+    (ap (λ n. going p n s) it.is
+    ∙ ap (λ (l : Location). take_over p (string_bytes l.field.value) (held_term l.receiver) (held_term l.amount) (giving p it.hole.value) s) (sym c.deref-in-TakeOver.ensures)
+    ∙ ap (λ (h : Hole). take_over p (string_bytes c.deref-in-TakeOver.result.now.field.value) (held_term c.deref-in-TakeOver.result.now.receiver) (held_term c.deref-in-TakeOver.result.now.amount) (giving p h) s) (sym c.deref-in-TakeOver-2.ensures)) c.step_take_over.ensures
 
 pub returns-in-Fresh : goal.returns-in-Fresh
 returns-in-Fresh c = stepped_as (settled c.args.program.now) _ _ _ _ _ (rw (c.in-Fresh.is, c.deref-in-Fresh.ensures) refl) c.step_fresh.ensures
