@@ -14,10 +14,10 @@ use Rattle.vx_grows.specs.Grows.{Begins}
 use Rattle.vx_stack.specs.declared.question.Query.{Query}
 use Rattle.vx_stack.specs.Stack.{query}
 use Rattle.vx_machine.specs.declared.machine.Phase.{Phase}
-use Rattle.vx_machine.specs.declared.machine.Phase.TheVariants as phase'
 use Rattle.vx_machine.specs.declared.machine.Ask.{Ask}
 use Rattle.vx_machine.specs.declared.machine.Ask.TheVariants.{Check as Due}
-use Rattle.vx_machine.specs.Growth.{IsOpen, Stays}
+use Rattle.vx_machine.specs.Growth.{AsksFrom, IsOpen, Stays}
+use Rattle.vx_machine.proofs.Follow.{asks_on}
 use Rattle.vx_verifier.proofs.Children.{entries_are}
 
 count_is : (q : Query) → q.count ≡ length (query q).path
@@ -48,11 +48,5 @@ path_goes_on q es new n from count is =
 
 -- the next question goes on from what stands, where the machine says so
 pub stays_on : (phase : Phase) (ask : Ask) (asked next : Query) (path : List Term) → IsOpen phase (Due asked) → Stays phase ask → ask ≡ Due next → path ≡ (query asked).path → Begins path (query next).path
-stays_on (phase'.Asked old) ask asked next path opened stays is here =
-    let begins = subst (Stays (phase'.Asked old)) is stays in
-    subst (λ x. Begins x (query next).path) (ap (λ x. x.path) opened ∙ sym here) begins
-stays_on phase'.Ready ask asked next path opened stays is here = absurd stays
-stays_on (phase'.Limited q) ask asked next path opened stays is here = absurd stays
-stays_on phase'.Passed ask asked next path opened stays is here = absurd stays
-stays_on (phase'.Failed at c r) ask asked next path opened stays is here = absurd stays
-stays_on phase'.Spent ask asked next path opened stays is here = absurd stays
+stays_on phase ask asked next path opened stays is here =
+    subst (λ x. Begins x (query next).path) (sym here) (subst (AsksFrom (query asked).path) is (asks_on phase asked ask opened stays))
