@@ -1,5 +1,6 @@
 pub mod Words
 pub mod Store
+pub mod Sums
 pub mod Fields
 pub mod Loops
 pub mod Calls

@@ -5,23 +5,22 @@ ghost use Rattle.vx_rules.specs.Trees.{AmountCode, AssertCode, FoldCode, Permiss
 ghost use Rattle.vx_examples.specs.Words.{at, part, int, bool, real, ref, snap, null, unit, none, all, falsity, denied, equal, differ, less, at_most, times, implied, as_int, as_ref, wrapped_int, wrapped_ref, asks, probes, questions_of};
 ghost use Rattle.vx_examples.specs.Amounts.{amounts, takes_none, takes_some, takes_from, folds_part, unfolds_part, multiples, news_all, news_none, loop_reads, old_after, nested, too_much, folds_maybe, unfolds_maybe, folds_picked, unfolds_picked, picked};
 
-/// An amount that nothing holds is asked to be none.
+/// An amount that nothing holds is asked to be at most none.
 #[tactic(auto, unfolding(vx_frac::specs::Fractions::lowest))]
 pub fn unheld_amounts()
     ensures takes_none { questions_of amounts takes_none ≡ [] }
     ensures takes_some { questions_of amounts takes_some ≡
         asks (at 8 45) AmountCode [] (at_most none (real 1))
-        ∷ asks (at 8 45) PermissionCode (at_most none (real 1) ∷ []) (equal (real 1) none) ∷ [] }
+        ∷ asks (at 8 45) PermissionCode (at_most none (real 1) ∷ []) (at_most (real 1) none) ∷ [] }
 {}
 
-/// An amount that is taken from a chunk is probed against what the chunk has.
+/// An amount that is taken from a location is asked to be at most what its chunk has.
 #[tactic(auto, unfolding(vx_frac::specs::Fractions::lowest))]
-pub fn probed_amounts()
+pub fn amounts_of_chunks()
     ensures takes_from { questions_of amounts takes_from ≡
         asks (at 9 54) AmountCode [] (at_most none (real 1))
         ∷ asks (at 9 73) AmountCode (at_most none (real 1) ∷ implied (less none (real 1)) (differ (ref 0) null) ∷ at_most (real 1) all ∷ []) (at_most none (real 2))
-        ∷ probes (at 9 73) PermissionCode (at_most none (real 1) ∷ implied (less none (real 1)) (differ (ref 0) null) ∷ at_most (real 1) all ∷ at_most none (real 2) ∷ []) (at_most (real 2) (real 1))
-        ∷ asks (at 9 73) PermissionCode (at_most none (real 1) ∷ implied (less none (real 1)) (differ (ref 0) null) ∷ at_most (real 1) all ∷ at_most none (real 2) ∷ []) (equal (real 2) none) ∷ [] }
+        ∷ asks (at 9 73) PermissionCode (at_most none (real 1) ∷ implied (less none (real 1)) (differ (ref 0) null) ∷ at_most (real 1) all ∷ at_most none (real 2) ∷ []) (at_most (real 2) (real 1)) ∷ [] }
 {}
 
 /// A fold and an unfold of a part: its amount is above none, and scales the body.
@@ -30,8 +29,7 @@ pub fn parts_of_instances()
     ensures folds_part { questions_of amounts folds_part ≡
         asks (at 10 56) AmountCode (differ (ref 0) null ∷ []) (less none (real 1))
         ∷ asks (at 10 56) AmountCode (differ (ref 0) null ∷ less none (real 1) ∷ []) (at_most none (real 1))
-        ∷ probes (at 10 56) FoldCode (differ (ref 0) null ∷ less none (real 1) ∷ at_most none (real 1) ∷ []) (at_most (real 1) all)
-        ∷ asks (at 10 56) FoldCode (differ (ref 0) null ∷ less none (real 1) ∷ at_most none (real 1) ∷ []) (equal (real 1) none) ∷ [] }
+        ∷ asks (at 10 56) FoldCode (differ (ref 0) null ∷ less none (real 1) ∷ at_most none (real 1) ∷ []) (at_most (real 1) all) ∷ [] }
     ensures unfolds_part { questions_of amounts unfolds_part ≡
         asks (at 11 57) AmountCode [] (less none (real 1))
         ∷ probes (at 11 57) UnfoldCode (less none (real 1) ∷ []) (at_most (real 1) all)

@@ -2,7 +2,7 @@
 
 ghost use Rattle.std.specs.Prelude.{◌≡◌, [], ◌∷◌};
 ghost use Rattle.vx_rules.specs.Trees.{AmountCode, AssertCode, EntryCode, FoldCode, FunctionCode, KeptCode, MeasureCode, PermissionCode, PostCode};
-ghost use Rattle.vx_examples.specs.Words.{at, int, bool, real, ref, snap, null, unit, number, none, all, falsity, denied, equal, differ, less, at_most, plus, minus, both, implied, pair, first, second, as_int, wrapped_int, asks, probes, questions_of};
+ghost use Rattle.vx_examples.specs.Words.{at, int, bool, real, ref, snap, null, unit, number, none, all, falsity, denied, equal, differ, less, at_most, plus, minus, both, implied, chosen_term, pair, first, second, as_int, wrapped_int, asks, questions_of};
 ghost use Rattle.vx_examples.specs.Applications.{where_same_at, low_at, applications, double, get, where_same, unheld_part, drops_a_side, even, unkept, low, uses_promise, folds_two, unfolds_two, folds_positive, loses, loop_without, loop_loses, two_variables, below_zero, whole_condition};
 
 /// An application of another group has no measure to lower.
@@ -16,8 +16,7 @@ pub fn other_groups()
 #[tactic(auto, unfolding(vx_frac::specs::Fractions::lowest))]
 pub fn function_bodies()
     ensures where_same { questions_of applications where_same ≡
-        probes (at 6 71) PermissionCode (equal (int 3) (as_int (snap 2)) ∷ equal (snap 2) (wrapped_int (int 3)) ∷ differ (ref 0) null ∷ equal (ref 1) (ref 0) ∷ []) (equal (ref 0) (ref 1))
-        ∷ asks (at 6 71) PermissionCode (equal (int 3) (as_int (snap 2)) ∷ equal (snap 2) (wrapped_int (int 3)) ∷ differ (ref 0) null ∷ equal (ref 1) (ref 0) ∷ []) falsity ∷ [] }
+        asks (at 6 71) PermissionCode (equal (int 3) (as_int (snap 2)) ∷ equal (snap 2) (wrapped_int (int 3)) ∷ differ (ref 0) null ∷ equal (ref 1) (ref 0) ∷ []) (less none (chosen_term (equal (ref 0) (ref 1)) all none)) ∷ [] }
     ensures unheld_part { questions_of applications unheld_part ≡ asks (at 21 37) PermissionCode (equal (snap 1) unit ∷ []) falsity ∷ [] }
 {}
 
@@ -53,13 +52,13 @@ pub fn told_facts()
 /// A fold says what is built, inner parts first.
 #[tactic(auto, unfolding(vx_frac::specs::Fractions::lowest, vx_rules::specs::Members::rules))]
 pub fn built_snapshots()
-    ensures folds_two { questions_of applications folds_two ≡ asks (at 10 88) PermissionCode (differ (ref 0) null ∷ differ (ref 1) null ∷ differ (ref 0) (ref 1) ∷ equal (as_int (wrapped_int (int 2))) (int 2) ∷ equal (as_int (wrapped_int (int 3))) (int 3) ∷ equal (first (pair (wrapped_int (int 2)) (wrapped_int (int 3)))) (wrapped_int (int 2)) ∷ equal (second (pair (wrapped_int (int 2)) (wrapped_int (int 3)))) (wrapped_int (int 3)) ∷ equal (snap 4) (pair (wrapped_int (int 2)) (wrapped_int (int 3))) ∷ []) falsity ∷ [] }
+    ensures folds_two { questions_of applications folds_two ≡ asks (at 10 88) PermissionCode (differ (ref 0) null ∷ differ (ref 1) null ∷ differ (ref 0) (ref 1) ∷ implied (equal (ref 1) (ref 0)) (equal (int 3) (int 2)) ∷ equal (as_int (wrapped_int (int 2))) (int 2) ∷ equal (as_int (wrapped_int (int 3))) (int 3) ∷ equal (first (pair (wrapped_int (int 2)) (wrapped_int (int 3)))) (wrapped_int (int 2)) ∷ equal (second (pair (wrapped_int (int 2)) (wrapped_int (int 3)))) (wrapped_int (int 3)) ∷ equal (snap 4) (pair (wrapped_int (int 2)) (wrapped_int (int 3))) ∷ []) falsity ∷ [] }
 {}
 
 /// An unfold says what the snapshot is made of.
 #[tactic(auto, unfolding(vx_frac::specs::Fractions::lowest, vx_rules::specs::Members::rules))]
 pub fn split_snapshots()
-    ensures unfolds_two { questions_of applications unfolds_two ≡ asks (at 11 81) AssertCode (equal (snap 2) (pair (first (snap 2)) (second (snap 2))) ∷ equal (int 3) (as_int (first (snap 2))) ∷ equal (first (snap 2)) (wrapped_int (int 3)) ∷ differ (ref 0) null ∷ equal (int 4) (as_int (second (snap 2))) ∷ equal (second (snap 2)) (wrapped_int (int 4)) ∷ differ (ref 1) null ∷ differ (ref 0) (ref 1) ∷ []) (equal (int 3) (int 4)) ∷ [] }
+    ensures unfolds_two { questions_of applications unfolds_two ≡ asks (at 11 81) AssertCode (equal (snap 2) (pair (first (snap 2)) (second (snap 2))) ∷ equal (int 3) (as_int (first (snap 2))) ∷ equal (first (snap 2)) (wrapped_int (int 3)) ∷ differ (ref 0) null ∷ equal (int 4) (as_int (second (snap 2))) ∷ equal (second (snap 2)) (wrapped_int (int 4)) ∷ differ (ref 1) null ∷ differ (ref 0) (ref 1) ∷ implied (equal (ref 1) (ref 0)) (equal (int 4) (int 3)) ∷ []) (equal (int 3) (int 4)) ∷ [] }
 {}
 
 /// The codes of what is not true or not held.

@@ -9,9 +9,7 @@ ghost use Rattle.vx_examples.specs.Branches.{branches, conditional, chosen, amou
 #[tactic(auto, unfolding(vx_frac::specs::Fractions::lowest))]
 pub fn conditions()
     ensures conditional { questions_of branches conditional ≡ [] }
-    ensures chosen { questions_of branches chosen ≡
-        probes (at 16 77) PermissionCode (denied (bool 1) ∷ differ (ref 0) null ∷ []) falsity
-        ∷ asks (at 16 77) PermissionCode (denied (bool 1) ∷ differ (ref 0) null ∷ []) falsity ∷ [] }
+    ensures chosen { questions_of branches chosen ≡ asks (at 16 77) PermissionCode (denied (bool 1) ∷ differ (ref 0) null ∷ []) falsity ∷ [] }
 {}
 
 /// An amount that is not literal is asked not to be below none, and bounded where it is put.

@@ -2,7 +2,8 @@
 
 ghost use Rattle.std.specs.Prelude.{◌≡◌, [], ◌∷◌};
 ghost use Rattle.vx_rules.specs.Trees.{AmountCode, AssertCode, DivisorCode, PermissionCode, UnfoldCode};
-ghost use Rattle.vx_examples.specs.Words.{as_int, asks, at, bool, both, chosen_term, denied, differ, either, equal, falsity, int, null, number, probes, questions_of, quotient, ref, remainder, snap, wrapped_int};
+ghost use Rattle.vx_examples.specs.Walks.{half};
+ghost use Rattle.vx_examples.specs.Words.{as_int, asks, at, bool, both, chosen_term, denied, differ, either, equal, falsity, implied, int, less, none, null, number, plus, questions_of, quotient, ref, remainder, snap, wrapped_int};
 ghost use Rattle.vx_examples.specs.Branches.{branches, quotients, total, right_of_and, right_of_or, right_of_implies, sides_of_choice, candidates_in_order, peek, peek_bare, peek_none, olds};
 
 /// A divisor is asked not to be 0, each time.
@@ -41,15 +42,12 @@ pub fn right_parts()
         ∷ asks (at 10 50) AssertCode (denied (bool 0) ∷ []) (equal (int 1) (number 1)) ∷ [] }
 {}
 
-/// A read probes the chunks in their order, and last asks for none.
+/// A read is asked about by the sum over the chunks in their order, and its value is that of each that is there.
 #[tactic(auto, unfolding(vx_frac::specs::Fractions::lowest))]
 pub fn reads()
     ensures candidates_in_order { questions_of branches candidates_in_order ≡
-        probes (at 11 101) PermissionCode (differ (ref 0) null ∷ differ (ref 1) null ∷ []) (equal (ref 0) (ref 2))
-        ∷ asks (at 11 101) AssertCode (differ (ref 0) null ∷ differ (ref 1) null ∷ []) (equal (int 3) (number 0))
-        ∷ probes (at 11 101) PermissionCode (differ (ref 0) null ∷ differ (ref 1) null ∷ []) (equal (ref 1) (ref 2))
-        ∷ asks (at 11 101) AssertCode (differ (ref 0) null ∷ differ (ref 1) null ∷ []) (equal (int 4) (number 0))
-        ∷ asks (at 11 101) PermissionCode (differ (ref 0) null ∷ differ (ref 1) null ∷ []) falsity ∷ [] }
+        asks (at 11 101) PermissionCode (differ (ref 0) null ∷ differ (ref 1) null ∷ implied (equal (ref 1) (ref 0)) (equal (int 4) (int 3)) ∷ []) (less none (plus (chosen_term (equal (ref 0) (ref 2)) half none) (chosen_term (equal (ref 1) (ref 2)) half none)))
+        ∷ asks (at 11 101) AssertCode (differ (ref 0) null ∷ differ (ref 1) null ∷ implied (equal (ref 1) (ref 0)) (equal (int 4) (int 3)) ∷ less none (plus (chosen_term (equal (ref 0) (ref 2)) half none) (chosen_term (equal (ref 1) (ref 2)) half none)) ∷ implied (equal (ref 0) (ref 2)) (equal (int 5) (int 3)) ∷ implied (equal (ref 1) (ref 2)) (equal (int 5) (int 4)) ∷ []) (equal (int 5) (number 0)) ∷ [] }
 {}
 
 /// An unfolding reads what is in the body by the snapshot, and leaves the instance.

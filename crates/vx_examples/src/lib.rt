@@ -29,6 +29,7 @@ pub mod settling;
 pub mod sorts;
 pub mod statements;
 pub mod store;
+pub mod sums;
 pub mod terms;
 pub mod untyped;
 pub mod values;

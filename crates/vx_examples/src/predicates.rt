@@ -3,7 +3,7 @@
 ghost use Rattle.std.specs.Prelude.{◌≡◌, [], ◌∷◌};
 ghost use Rattle.vx_smt_meaning.specs.declared.reply.Reply.TheVariants.{Unsat, Sat};
 ghost use Rattle.vx_rules.specs.Trees.{PermissionCode, AmountCode, Passed, Failed};
-ghost use Rattle.vx_examples.specs.Words.{at, int, ref, snap, null, falsity, equal, differ, wrapped_int, as_int, questions_of, ending_of, asks, probes};
+ghost use Rattle.vx_examples.specs.Words.{at, int, ref, snap, null, falsity, equal, differ, wrapped_int, as_int, questions_of, ending_of, asks};
 ghost use Rattle.vx_examples.specs.Predicates.{m, list, P_name, Q_name, lists, folded_write, half_unfolded, unframed, below_none};
 
 /// A body that frames itself asks nothing.
@@ -27,9 +27,8 @@ pub fn a_write_after_a_fold()
 #[tactic(auto, unfolding(vx_frac::specs::Fractions::lowest, vx_rules::specs::Members::rules))]
 pub fn a_write_after_half_an_unfold()
     ensures asked { questions_of half_unfolded m ≡
-        probes (at 6 1) PermissionCode (equal (int 2) (as_int (snap 1)) ∷ equal (snap 1) (wrapped_int (int 2)) ∷ differ (ref 0) null ∷ []) falsity
-        ∷ asks (at 6 1) PermissionCode (equal (int 2) (as_int (snap 1)) ∷ equal (snap 1) (wrapped_int (int 2)) ∷ differ (ref 0) null ∷ []) falsity ∷ [] }
-    ensures failed { ending_of half_unfolded m (Sat ∷ Sat ∷ []) ≡ Failed (at 6 1) PermissionCode Sat }
+        asks (at 6 1) PermissionCode (equal (int 2) (as_int (snap 1)) ∷ equal (snap 1) (wrapped_int (int 2)) ∷ differ (ref 0) null ∷ []) falsity ∷ [] }
+    ensures failed { ending_of half_unfolded m (Sat ∷ []) ≡ Failed (at 6 1) PermissionCode Sat }
 {}
 
 /// A body that reads what it doesn't hold.

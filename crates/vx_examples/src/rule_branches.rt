@@ -47,10 +47,10 @@ pub fn no_candidates()
     ensures taken { rules.take_chunk (chunks.field_key f (ref 0)) half IntSort (at 1 1) PermissionCode scene (λ c s. End) ≡ refused PermissionCode }
     ensures none_taken { rules.take_chunk (chunks.field_key f (ref 0)) none IntSort (at 1 1) PermissionCode scene from_chunks ≡ Step (from_chunks (record (chunks.field_key f (ref 0)) { value = int 7 }) (record scene { next = 8 })) }
     ensures quiet_taken { rules.take_chunk (chunks.field_key f (ref 0)) none IntSort (at 1 1) PermissionCode quiet_scene (λ c s. Step End) ≡ End }
-    ensures read { rules.read_field f (ref 0) (at 1 1) scene gives ≡ refused PermissionCode }
+    ensures read { rules.read_field f (ref 0) IntSort (at 1 1) scene gives ≡ refused PermissionCode }
     ensures written { rules.write_field f (ref 0) (int 1) (at 1 1) scene goes ≡ refused PermissionCode }
-    ensures held { rules.first_with (rules.holds_some (ref 0 ∷ [])) [] (at 1 1) MeasureCode scene (λ c. Step End) (refused MeasureCode) ≡ refused MeasureCode }
-    ensures held_by_other { rules.first_with (rules.holds_some (ref 0 ∷ [])) (record { number = 0; chunk = cell_chunk (ref 1) half (snap 2) } ∷ []) (at 1 1) MeasureCode scene (λ c. End) (refused MeasureCode) ≡ Probe (probes (at 1 1) MeasureCode (bool 0 ∷ denied (bool 1) ∷ []) (equal (ref 1) (ref 0))) End (refused MeasureCode) }
+    ensures held { rules.first_with (chunks.holds_some (ref 0 ∷ [])) [] (at 1 1) MeasureCode scene (λ c. Step End) (refused MeasureCode) ≡ refused MeasureCode }
+    ensures held_by_other { rules.first_with (chunks.holds_some (ref 0 ∷ [])) (record { number = 0; chunk = cell_chunk (ref 1) half (snap 2) } ∷ []) (at 1 1) MeasureCode scene (λ c. End) (refused MeasureCode) ≡ Probe (probes (at 1 1) MeasureCode (bool 0 ∷ denied (bool 1) ∷ []) (equal (ref 1) (ref 0))) End (refused MeasureCode) }
     ensures rooted { members.from_measure [] (rules.outer [] 1) f cells.cells_get (Some (syntax.ByInstance (at 1 1) cell syntax.NoMore)) scene ≡ Step (Step (refused MeasureCode)) }
 {}
 
@@ -79,7 +79,10 @@ pub fn parts_of_chunks()
     ensures merged_maybe { chunks.merged (field_chunk f (ref 0) half (int 1)) (field_chunk f (ref 0) (real 3) (int 2)) ≡ field_chunk f (ref 0) (plus (real 3) half) (chosen_term (less none (real 3)) (int 2) (int 1)) }
     ensures agree { chunks.agree (cell_chunk (ref 0) half (snap 1)) (cell_chunk (ref 0) half (snap 2)) ≡ equal (snap 2) (snap 1) }
     ensures agree_maybe { chunks.agree (cell_chunk (ref 0) (real 3) (snap 1)) (cell_chunk (ref 0) half (snap 2)) ≡ implied (less none (real 3)) (equal (snap 2) (snap 1)) }
-    ensures apart { chunks.apart (field_chunk f (ref 0) half (int 1)) (field_chunk f (ref 0) half (int 2) ∷ field_chunk g (ref 1) all (int 3) ∷ field_chunk f (ref 1) (real 4) (int 5) ∷ []) ≡ implied (equal (ref 1) (ref 0)) (at_most (plus half (real 4)) all) ∷ [] }
+    ensures apart { chunks.apart true true (field_chunk f (ref 0) half (int 1)) (field_chunk f (ref 0) half (int 2) ∷ field_chunk g (ref 1) all (int 3) ∷ field_chunk f (ref 1) (real 4) (int 5) ∷ []) ≡
+        implied (equal (ref 1) (ref 0)) (at_most (plus half (real 4)) all) ∷ implied (both (equal (ref 0) (ref 1)) (less none (real 4))) (equal (int 1) (int 5)) ∷ [] }
+    ensures apart_quietly { chunks.apart false true (field_chunk f (ref 0) half (int 1)) (field_chunk f (ref 1) (real 4) (int 5) ∷ []) ≡ implied (equal (ref 1) (ref 0)) (at_most (plus half (real 4)) all) ∷ [] }
+    ensures apart_in_a_body { chunks.apart true false (field_chunk f (ref 0) half (int 1)) (field_chunk f (ref 1) (real 4) (int 5) ∷ []) ≡ implied (both (equal (ref 0) (ref 1)) (less none (real 4))) (equal (int 1) (int 5)) ∷ [] }
     ensures bounding { chunks.bounding true (bool 1 ∷ []) ≡ bool 1 ∷ [] }
     ensures not_bounding { chunks.bounding false (bool 1 ∷ []) ≡ [] }
 {}

@@ -2,7 +2,7 @@
 
 ghost use Rattle.std.specs.Prelude.{◌≡◌, [], ◌∷◌};
 ghost use Rattle.vx_rules.specs.Trees.{AmountCode, AssertCode, CallCode, FoldCode, MeasureCode, PermissionCode, UnfoldCode};
-ghost use Rattle.vx_examples.specs.Words.{asks, at, bool, denied, differ, equal, falsity, int, less, null, number, plus, probes, questions_of, ref, snap, unit};
+ghost use Rattle.vx_examples.specs.Words.{all, asks, at, at_most, bool, chosen_term, denied, differ, equal, falsity, int, less, none, null, number, plus, questions_of, ref, snap, unit};
 ghost use Rattle.vx_examples.specs.Branches.{branches, folds_bare, folds_none, unfolds_bare, unfolds_none, sets, writes_other, creates, assumes, calls, loops_over_heap, forgets_variables, increases, precondition, postcondition, needs, stuck};
 
 /// A fold without the body, and one of no amount.
@@ -25,12 +25,10 @@ pub fn named_writes()
     ensures sets { questions_of branches sets ≡ asks (at 22 69) AssertCode (differ (ref 0) null ∷ equal (int 3) (plus (int 1) (number 1)) ∷ []) (less (int 1) (int 3)) ∷ [] }
 {}
 
-/// A write probes the chunk of another reference.
+/// A write of another reference is asked about by the sum over the chunk that may be its.
 #[tactic(auto, unfolding(vx_frac::specs::Fractions::lowest))]
 pub fn other_writes()
-    ensures writes_other { questions_of branches writes_other ≡
-        probes (at 38 57) PermissionCode (differ (ref 0) null ∷ []) (equal (ref 0) (ref 1))
-        ∷ asks (at 38 57) PermissionCode (differ (ref 0) null ∷ []) falsity ∷ [] }
+    ensures writes_other { questions_of branches writes_other ≡ asks (at 38 57) PermissionCode (differ (ref 0) null ∷ []) (at_most all (chosen_term (equal (ref 0) (ref 1)) all none)) ∷ [] }
 {}
 
 /// A new reference differs from null, from those of the store and from those of what is held.

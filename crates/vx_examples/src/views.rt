@@ -47,6 +47,7 @@ ghost use Rattle.vx_resolved.specs.declared.Stmt.{Stmt as Stmt'};
 ghost use Rattle.vx_resolved.specs.declared.Block.{Block as Block'};
 ghost use Rattle.vx_resolved.specs.declared.Method.{Method as Method'};
 ghost use Rattle.vx_terms.specs.Build as make;
+ghost use Rattle.vx_rules.specs.Chunks as chunks;
 ghost use Rattle.vx_rules.specs.States as states;
 ghost use Rattle.vx_rules.specs.Rules as rules;
 ghost use Rattle.vx_rules.specs.Rules.{Giving, Going};
@@ -131,7 +132,7 @@ pub fn operands_that_wait()
     ensures choose_with { (t u : Rc Term' Global) (on : Giving) → operand [] (operand'.ChooseWith t u) on (int 2) scene ≡ Step (on (make.ite (held_term t) (held_term u) (int 2)) scene) }
     ensures choose_sides { (a b : Rc Expr' Global) (on : Giving) → operand [] (operand'.ChooseSides a b) on falsity scene ≡ Step (rules.eval [] (rules.outer [] 4) (expr b.value) scene on) }
     ensures divide_with { (t : Rc Term' Global) (on : Giving) → operand [] (operand'.DivideWith (at 1 1) division'.Quotient t) on (number 2) scene ≡ Step (on (rules.divided syntax.Quotient (held_term t) (number 2)) scene) }
-    ensures receiver { (x : Rc (String Global) Global) (on : Giving) → operand [] (operand'.Receiver (at 1 1) x) on (int 0) scene ≡ rules.read_field (string_bytes x.value) (int 0) (at 1 1) scene on }
+    ensures receiver { (x : Rc (String Global) Global) (on : Giving) → operand [] (operand'.Receiver (at 1 1) x) on (int 0) scene ≡ rules.read_field (string_bytes x.value) (int 0) (rules.field_sort [] (string_bytes x.value)) (at 1 1) scene on }
     ensures restore { (h : Rc SymHeap Global) (on : Giving) → operand [] (operand'.Restore h) on (int 0) with_chunks ≡ Step (on (int 0) (record with_chunks { heap = heap h.value })) }
 {}
 
@@ -147,7 +148,7 @@ pub fn parts_that_wait()
     ensures with_left { (t : Rc Term' Global) (on : Giving) → consumed [] (consumed'.With t (record { pure = code'.Assert; permission = code'.Permission; builds = false })) on unit scene ≡ Step (on (pair (held_term t) unit) scene) }
     ensures with_facts { (t : Rc Term' Global) (on : Giving) → consumed [] (consumed'.With t (record { pure = code'.Fold; permission = code'.Fold; builds = true })) on unit scene ≡
         Step (on (pair (held_term t) unit) (states.with_facts (rules.pair_facts (held_term t) unit) scene)) }
-    ensures wanted_some { (x : Search) (c : states.Chunk) → x.amount ≡ None → wanted x c ≡ rules.holds_some (terms_of x.arguments.items) c }
+    ensures wanted_some { (x : Search) (c : states.Chunk) → x.amount ≡ None → wanted x c ≡ chunks.holds_some (terms_of x.arguments.items) c }
     ensures fact { (on : Going) → produced [] (produced'.Fact None) on (bool 0) scene ≡ Step (on scene) }
     ensures put { (x : Rc (String Global) Global) (r : Rc Term' Global) (how : Rc Production Global) (on : Going) → produced [] (produced'.Amount (at 1 1) x r how true) on (real 0) scene ≡
         putting [] (at 1 1) (string_bytes x.value) (held_term r) (make.multiply (held_term how.value.scale) (real 0)) (optional_term how.value.snapshot) true scene on }
@@ -183,8 +184,9 @@ pub fn frames_that_wait()
     ensures put { (q : _) (l : Rc Location Global) (x : Rc Production Global) (n : Next) → going [] (next'.Put' l x false q n) scene ≡
         Step (going [] n (with_location [] (string_bytes l.value.field.value) (held_term l.value.receiver) (held_term l.value.amount) (optional_term x.value.snapshot) false scene)) }
     ensures read { (q : _) (x : Rc Search Global) (h : Hole) → going [] (next'.ReadFrom' x 1 q h) scene ≡ finding x.value 1 scene (λ c. giving [] h c.chunk.value scene) (rules.never x.value.place (code x.value.code) scene) }
-    ensures written { (q : _) (x : Rc Search Global) (t : Rc Term' Global) (n : Next) → going [] (next'.WriteTo' x 0 t q n) scene ≡
-        finding x.value 0 scene (λ c. going [] n (rules.written c (held_term t) scene)) (rules.never x.value.place (code x.value.code) scene) }
+    ensures read_over { (q : _) (f : Rc (String Global) Global) (r : Rc Term' Global) (h : Hole) → going [] (next'.ReadOver' f r q h) scene ≡ giving [] h (states.fresh sort.IntSort scene) (states.after_fresh scene) }
+    ensures take_over { (q : _) (l : Rc Location Global) (h : Hole) → going [] (next'.TakeOver' l q h) scene ≡ giving [] h (states.fresh sort.IntSort scene) (states.after_fresh scene) }
+    ensures write_over { (q : _) (f : Rc (String Global) Global) (r t : Rc Term' Global) (n : Next) → going [] (next'.WriteOver' f r t q n) scene ≡ going [] n scene }
     ensures fresh { (q : _) (w : Taken) → going [] (next'.Fresh' sort'.Int q w) scene ≡ with_taken [] w (states.fresh sort.IntSort scene) false (states.after_fresh scene) }
     ensures evals { (q : _) (es : Rc Exprs' Global) (r : Row) → going [] (next'.Evals' es q r) scene ≡ rules.evals [] (rules.outer [] 4) (exprs es.value) scene (giving_all [] r) }
     ensures back { (q : _) (c : Rc Caller Global) (n : Next) → going [] (next'.Back' c q n) with_chunks ≡ going [] n (back_to c.value with_chunks) }

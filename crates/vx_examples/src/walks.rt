@@ -118,16 +118,20 @@ pub fn heaps()
     ensures merged_heap { (chunks.put (field_chunk f (ref 0) half (int 14)) with_chunks).heap ≡
         field_chunk f (ref 0) all (int 10) ∷ field_chunk f (ref 1) all (int 11) ∷ field_chunk g (ref 0) all (int 12) ∷ cell_chunk (ref 0) half (snap 13) ∷ [] }
     ensures merged_facts { (chunks.put (field_chunk f (ref 0) half (int 14)) with_chunks).path ≡
-        fact (differ (ref 0) null) ∷ fact (equal (int 10) (int 14)) ∷ fact (differ (ref 1) (ref 0)) ∷ [] }
-    ensures merged_unbounded { (chunks.put (field_chunk f (ref 0) half (int 14)) (record with_chunks { bounded = false })).path ≡ fact (differ (ref 0) null) ∷ fact (equal (int 10) (int 14)) ∷ [] }
+        fact (differ (ref 0) null) ∷ fact (equal (int 10) (int 14)) ∷ fact (differ (ref 1) (ref 0)) ∷ fact (implied (equal (ref 0) (ref 1)) (equal (int 10) (int 11))) ∷ [] }
+    ensures merged_unbounded { (chunks.put (field_chunk f (ref 0) half (int 14)) (record with_chunks { bounded = false })).path ≡ fact (differ (ref 0) null) ∷ fact (equal (int 10) (int 14)) ∷ fact (implied (equal (ref 0) (ref 1)) (equal (int 10) (int 11))) ∷ [] }
     ensures added_heap { (chunks.put (field_chunk f (ref 2) half (int 14)) with_chunks).heap ≡
         field_chunk f (ref 0) half (int 10) ∷ field_chunk f (ref 1) all (int 11) ∷ field_chunk g (ref 0) all (int 12) ∷ cell_chunk (ref 0) half (snap 13)
         ∷ field_chunk f (ref 2) half (int 14) ∷ [] }
-    ensures added_facts { (chunks.put (field_chunk f (ref 2) half (int 14)) with_chunks).path ≡ fact (differ (ref 2) null) ∷ fact (differ (ref 1) (ref 2)) ∷ [] }
+    ensures added_facts { (chunks.put (field_chunk f (ref 2) half (int 14)) with_chunks).path ≡
+        fact (differ (ref 2) null) ∷ fact (implied (equal (ref 2) (ref 0)) (equal (int 14) (int 10)))
+        ∷ fact (differ (ref 1) (ref 2)) ∷ fact (implied (equal (ref 2) (ref 1)) (equal (int 14) (int 11)))
+        ∷ fact (at_most (plus (plus half (chosen_term (equal (ref 0) (ref 2)) half none)) (chosen_term (equal (ref 1) (ref 2)) all none)) all) ∷ [] }
     ensures symbolic_facts { (chunks.put (field_chunk f (ref 0) (real 3) (int 14)) with_chunks).path ≡
         fact (implied (less none (real 3)) (differ (ref 0) null)) ∷ fact (at_most (real 3) all)
         ∷ fact (implied (less none (real 3)) (equal (int 10) (int 14))) ∷ fact (at_most (plus half (real 3)) all)
-        ∷ fact (implied (equal (ref 1) (ref 0)) (at_most (plus (plus half (real 3)) all) all)) ∷ [] }
+        ∷ fact (implied (equal (ref 1) (ref 0)) (at_most (plus (plus half (real 3)) all) all))
+        ∷ fact (implied (both (equal (ref 0) (ref 1)) (less none (plus half (real 3)))) (equal (int 10) (int 11))) ∷ [] }
     ensures instance_merged { (chunks.put (cell_chunk (ref 0) half (snap 14)) with_chunks).path ≡ fact (equal (snap 13) (snap 14)) ∷ [] }
     ensures instance_added { (chunks.put (cell_chunk (ref 1) all (snap 14)) with_chunks).path ≡ [] }
     ensures two_arguments { chunks.equal_arguments (ref 0 ∷ ref 1 ∷ []) (ref 2 ∷ ref 3 ∷ []) ≡ both (equal (ref 0) (ref 2)) (equal (ref 1) (ref 3)) }
