@@ -8,13 +8,13 @@ vsil=$(where_vsil)
 
 assignments() {
     echo "method m(x: Int) returns (y: Int) ensures true && y == y + 0 { y := x"
-    for ((i = 0; i < $1; i++)); do echo "y := y + x"; done
+    lines "$1" 'y := y + x'
     echo "}"
 }
 
 asserts() {
     echo "method m(a: Bool) requires a {"
-    for ((i = 0; i < $1; i++)); do echo "assert a"; done
+    lines "$1" 'assert a'
     echo "}"
 }
 
@@ -26,15 +26,11 @@ sums() {
 
 paths() {
     echo "method m(a: Bool) returns (b: Bool) requires a ensures a {"
-    for ((i = 0; i < $1; i++)); do echo "var c$i: Bool if (c$i) { b := c$i } else { }"; done
+    lines "$1" 'var c@: Bool if (c@) { b := c@ } else { }'
     echo "}"
 }
 
 measure verify assignments "assignments in one method" 100 400 1600 6400
 measure verify asserts "asserts in one method" 100 400 1600
 measure verify paths "branches in one method, n for 2^n paths" 4 8 12
-for count in 50 100 200; do
-    sums "$count" > "$folder/file.vpr"
-    timed "verify, asserts of sums in one method" "$count" "$folder/file.vpr" "$vsil" verify
-    if has z3; then timed "verify by z3, asserts of sums in one method" "$count" "$folder/file.vpr" "$vsil" verify --solver 'z3 -in'; fi
-done
+by_both sums "asserts of sums in one method" 50 100 200

@@ -85,6 +85,23 @@ measure() {
     done
 }
 
+# by_both WRITER WHAT SIZE..: times `verify` on the files that WRITER writes, by the companion and, where it is there, by z3
+by_both() {
+    local writer=$1 what=$2 count
+    shift 2
+    for count in "$@"; do
+        "$writer" "$count" > "$folder/file.vpr"
+        timed "verify, $what" "$count" "$folder/file.vpr" "$vsil" verify
+        if has z3; then timed "verify by z3, $what" "$count" "$folder/file.vpr" "$vsil" verify --solver 'z3 -in'; fi
+    done
+}
+
+# lines COUNT TEXT: prints the text so many times, a line each, with the number of the line, from 0 on, in the place of each @
+lines() {
+    local number
+    for ((number = 0; number < $1; number++)); do echo "${2//@/$number}"; done
+}
+
 # two_question_methods COUNT: writes so many methods over Bool and Int variables, which ask two questions each
 two_question_methods() {
     awk -v count="$1" 'BEGIN {
