@@ -84,6 +84,8 @@ two_is_fresh = record {
   not_stored = λ v e. stored _ _ e;
   not_held = λ l h. absurd (nothing_held h.1);
   not_held_before = λ l h. absurd (nothing_held h.1);
+  not_stored_around = tt;
+  not_held_around = tt;
 }
 
 pub new_references_created : run_all cells creates poor (Ends (state ((x, RefValue 2) ∷ (y, IntValue (pos 0)) ∷ []) (with_x_f (pos 5)) ((At record { receiver = 2; field = f }, full) ∷ [])))

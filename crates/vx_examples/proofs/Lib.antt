@@ -12,5 +12,7 @@ pub mod Kept
 pub mod Halves
 pub mod Unending
 pub mod Unfolded
+pub mod Unopened
+pub mod UnopenedTyped
 pub mod Reached
 pub mod WellSorted

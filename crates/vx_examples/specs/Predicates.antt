@@ -1,9 +1,10 @@
 -- Programs with predicates.
-use Rattle.std.specs.Prelude.{[], ◌∷◌, Some, None, codes}
+use Rattle.std.specs.Prelude.{List, [], ◌∷◌, Some, None, codes}
 use Rattle.vx_ast.specs.declared.ValueType.TheVariants.{Int}
 use Rattle.vx_ast.specs.declared.ValueType.TheVariants as type
-use Rattle.vx_ast.specs.Syntax.{Name, Both, Done, Equal, Exhale, Fold, Greater, Implied, Instance, IsField, IsMethod, IsPredicate, Method, More, NoMore, Not, Null, Number, Operate, Part, Points, Predicate, Program, Pure, Read, Subtract, Then, Unfold, Variable, Write}
-use Rattle.vx_examples.specs.Words.{at}
+use Rattle.vx_ast.specs.Syntax.{Name, Assert, Both, Done, Equal, Exhale, Fold, Greater, Implied, Instance, IsField, IsMethod, IsPredicate, Method, More, NoMore, Not, Null, Number, Operate, Part, Points, Predicate, Program, Pure, Read, Subtract, Then, Unfold, Variable, Write}
+use Rattle.vx_terms.specs.Terms.{Term}
+use Rattle.vx_examples.specs.Words.{at, int, ref, snap, null, unit, number, equal, differ, less, pair, first, second, wrapped_int, as_int}
 
 abbrev pub P_name : Name
 P_name = codes "P"
@@ -22,6 +23,9 @@ m = codes "m"
 
 abbrev pub next : Name
 next = codes "next"
+
+abbrev pub positive : Name
+positive = codes "positive"
 
 abbrev pub x : Name
 x = codes "x"
@@ -139,3 +143,55 @@ below_none_m = record {
 
 abbrev pub below_none : Program
 below_none = record { name = P_name; kind = IsPredicate below_none_P } ∷ record { name = m; kind = IsMethod below_none_m } ∷ []
+
+-- field f: Int
+-- predicate positive(x: Ref) { acc(x.f) && x.f > 0 }
+-- method m(x: Ref) requires positive(x)
+-- {
+-- assert x != null
+-- }
+abbrev pub hidden_positive : Predicate
+hidden_positive = record {
+  place = at 2 1;
+  parameters = record { name = x; of = type.Ref } ∷ [];
+  body = Some (Both (Points (at 2 30) (Variable (at 2 34) x) f (Part (at 2 30) 1 1)) (Pure (Operate (at 2 42) Greater (Read (at 2 42) (Variable (at 2 42) x) f) (Number (at 2 48) 0))));
+}
+
+abbrev pub hidden_m : Method
+hidden_m = record {
+  place = at 3 1;
+  parameters = record { name = x; of = type.Ref } ∷ [];
+  returns = [];
+  requires = Instance (at 3 27) positive (More (Variable (at 3 36) x) NoMore) (Part (at 3 27) 1 1) ∷ [];
+  ensures = [];
+  body = Some (Then (Assert (at 5 1) (Pure (Not (at 5 8) (Operate (at 5 8) Equal (Variable (at 5 8) x) (Null (at 5 13)))))) Done);
+}
+
+abbrev pub hidden : Program
+hidden = record { name = f; kind = IsField Int } ∷ record { name = positive; kind = IsPredicate hidden_positive } ∷ record { name = m; kind = IsMethod hidden_m } ∷ []
+
+-- field f: Int
+-- predicate positive(x: Ref) { acc(x.f) && x.f > 0 }
+-- method m(x: Ref) requires positive(x)
+-- {
+-- unfold positive(x)
+-- assert x != null
+-- }
+abbrev pub opened_m : Method
+opened_m = record {
+  place = at 3 1;
+  parameters = record { name = x; of = type.Ref } ∷ [];
+  returns = [];
+  requires = Instance (at 3 27) positive (More (Variable (at 3 36) x) NoMore) (Part (at 3 27) 1 1) ∷ [];
+  ensures = [];
+  body = Some (Then (Unfold (at 5 1) positive (More (Variable (at 5 17) x) NoMore) (Part (at 5 1) 1 1)) (Then (Assert (at 6 1) (Pure (Not (at 6 8) (Operate (at 6 8) Equal (Variable (at 6 8) x) (Null (at 6 13)))))) Done));
+}
+
+abbrev pub opened : Program
+opened = record { name = f; kind = IsField Int } ∷ record { name = positive; kind = IsPredicate hidden_positive } ∷ record { name = m; kind = IsMethod opened_m } ∷ []
+
+-- what is known of x once positive(x) is unfolded
+abbrev pub opened_path : List Term
+opened_path =
+    equal (snap 1) (pair (first (snap 1)) (second (snap 1))) ∷ equal (int 2) (as_int (first (snap 1))) ∷ equal (first (snap 1)) (wrapped_int (int 2))
+    ∷ differ (ref 0) null ∷ less (number 0) (int 2) ∷ equal (second (snap 1)) unit ∷ []

@@ -20,7 +20,8 @@ pub fn amounts_of_chunks()
     ensures takes_from { questions_of amounts takes_from ≡
         asks (at 9 54) AmountCode [] (at_most none (real 1))
         ∷ asks (at 9 73) AmountCode (at_most none (real 1) ∷ implied (less none (real 1)) (differ (ref 0) null) ∷ at_most (real 1) all ∷ []) (at_most none (real 2))
-        ∷ asks (at 9 73) PermissionCode (at_most none (real 1) ∷ implied (less none (real 1)) (differ (ref 0) null) ∷ at_most (real 1) all ∷ at_most none (real 2) ∷ []) (at_most (real 2) (real 1)) ∷ [] }
+        ∷ asks (at 9 73) PermissionCode (at_most none (real 1) ∷ implied (less none (real 1)) (differ (ref 0) null) ∷ at_most (real 1) all
+        ∷ at_most none (real 2) ∷ []) (at_most (real 2) (real 1)) ∷ [] }
 {}
 
 /// A fold and an unfold of a part: its amount is above none, and scales the body.
@@ -43,14 +44,16 @@ pub fn parts_of_instances()
 pub fn multiples_of_amounts()
     ensures multiples { questions_of amounts multiples ≡
         asks (at 18 44) AmountCode [] (at_most none (times (part (pos 2) 0) (real 1)))
-        ∷ asks (at 18 67) AssertCode (at_most none (times (part (pos 2) 0) (real 1)) ∷ implied (less none (times (part (pos 2) 0) (real 1))) (differ (ref 0) null) ∷ at_most (times (part (pos 2) 0) (real 1)) all ∷ []) (at_most none (real 1)) ∷ [] }
+        ∷ asks (at 18 67) AssertCode (at_most none (times (part (pos 2) 0) (real 1)) ∷ implied (less none (times (part (pos 2) 0) (real 1)))
+        (differ (ref 0) null) ∷ at_most (times (part (pos 2) 0) (real 1)) all ∷ []) (at_most none (real 1)) ∷ [] }
 {}
 
 /// All fields of a new reference, or none.
 #[tactic(auto, unfolding(vx_frac::specs::Fractions::lowest))]
 pub fn fields_of_new()
     ensures news_all { questions_of amounts news_all ≡ asks (at 12 51) AssertCode (differ (ref 1) null ∷ differ (ref 1) (ref 0) ∷ []) (equal (ref 3) null) ∷ [] }
-    ensures news_none { questions_of amounts news_none ≡ asks (at 13 57) AssertCode (differ (ref 2) null ∷ differ (ref 2) (ref 0) ∷ differ (ref 2) (ref 1) ∷ []) (differ (ref 2) (ref 0)) ∷ [] }
+    ensures news_none { questions_of amounts news_none ≡ asks (at 13 57) AssertCode (differ (ref 2) null ∷ differ (ref 2) (ref 0) ∷ differ (ref 2) (ref 1)
+        ∷ []) (differ (ref 2) (ref 0)) ∷ [] }
 {}
 
 /// A condition that is not framed by the invariant, in the iteration and behind the loop.

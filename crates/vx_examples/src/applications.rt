@@ -16,14 +16,18 @@ pub fn other_groups()
 #[tactic(auto, unfolding(vx_frac::specs::Fractions::lowest))]
 pub fn function_bodies()
     ensures where_same { questions_of applications where_same ≡
-        asks (at 6 71) PermissionCode (equal (int 3) (as_int (snap 2)) ∷ equal (snap 2) (wrapped_int (int 3)) ∷ differ (ref 0) null ∷ equal (ref 1) (ref 0) ∷ []) (less none (chosen_term (equal (ref 0) (ref 1)) all none)) ∷ [] }
+        asks (at 6 71) PermissionCode (equal (int 3) (as_int (snap 2)) ∷ equal (snap 2) (wrapped_int (int 3)) ∷ differ (ref 0) null ∷ equal (ref 1) (ref 0)
+        ∷ []) (less none (chosen_term (equal (ref 0) (ref 1)) all none)) ∷ [] }
     ensures unheld_part { questions_of applications unheld_part ≡ asks (at 21 37) PermissionCode (equal (snap 1) unit ∷ []) falsity ∷ [] }
 {}
 
 /// What an application tells leaves out the side in which no candidate passes.
 #[tactic(auto, unfolding(vx_frac::specs::Fractions::lowest, vx_rules::specs::Members::rules))]
 pub fn dropped_sides()
-    ensures drops_a_side { questions_of applications drops_a_side ≡ asks (at 9 64) AssertCode (differ (ref 0) null ∷ equal (as_int (wrapped_int (int 2))) (int 2) ∷ equal (snap 3) (wrapped_int (int 2)) ∷ implied (differ (ref 1) (ref 0)) (both (equal (snap 3) (wrapped_int (as_int (snap 3)))) (equal (where_same_at (snap 3) (ref 0) (ref 1)) (number 0))) ∷ equal (snap 3) (wrapped_int (as_int (snap 3))) ∷ []) (equal (where_same_at (snap 3) (ref 0) (ref 1)) (number 0)) ∷ [] }
+    ensures drops_a_side { questions_of applications drops_a_side ≡ asks (at 9 64) AssertCode (differ (ref 0) null
+        ∷ equal (as_int (wrapped_int (int 2))) (int 2) ∷ equal (snap 3) (wrapped_int (int 2)) ∷ implied (differ (ref 1) (ref 0))
+        (both (equal (snap 3) (wrapped_int (as_int (snap 3)))) (equal (where_same_at (snap 3) (ref 0) (ref 1)) (number 0)))
+        ∷ equal (snap 3) (wrapped_int (as_int (snap 3))) ∷ []) (equal (where_same_at (snap 3) (ref 0) (ref 1)) (number 0)) ∷ [] }
 {}
 
 /// Each of two functions that apply one another has a lesser measure there.
@@ -31,7 +35,8 @@ pub fn dropped_sides()
 pub fn mutual_measures()
     ensures even { questions_of applications even ≡
         asks (at 7 75) FunctionCode (at_most (number 0) (int 0) ∷ equal (snap 1) unit ∷ differ (int 0) (number 0) ∷ []) (at_most (number 0) (minus (int 0) (number 1)))
-        ∷ asks (at 7 75) MeasureCode (at_most (number 0) (int 0) ∷ equal (snap 1) unit ∷ differ (int 0) (number 0) ∷ at_most (number 0) (minus (int 0) (number 1)) ∷ []) (both (at_most (number 0) (int 0)) (less (minus (int 0) (number 1)) (int 0))) ∷ [] }
+        ∷ asks (at 7 75) MeasureCode (at_most (number 0) (int 0) ∷ equal (snap 1) unit ∷ differ (int 0) (number 0) ∷ at_most (number 0)
+        (minus (int 0) (number 1)) ∷ []) (both (at_most (number 0) (int 0)) (less (minus (int 0) (number 1)) (int 0))) ∷ [] }
 {}
 
 /// A postcondition is asked of the value.
@@ -46,25 +51,34 @@ pub fn function_promises()
 pub fn told_facts()
     ensures uses_promise { questions_of applications uses_promise ≡
         asks (at 20 53) FunctionCode (less (number 5) (int 0) ∷ []) (less (number 0) (int 0))
-        ∷ asks (at 20 53) AssertCode (less (number 5) (int 0) ∷ less (number 0) (int 0) ∷ equal (low_at unit (int 0)) (plus (int 0) (number 1)) ∷ less (number 1) (low_at unit (int 0)) ∷ []) (less (number 1) (low_at unit (int 0))) ∷ [] }
+        ∷ asks (at 20 53) AssertCode (less (number 5) (int 0) ∷ less (number 0) (int 0) ∷ equal (low_at unit (int 0)) (plus (int 0) (number 1))
+        ∷ less (number 1) (low_at unit (int 0)) ∷ []) (less (number 1) (low_at unit (int 0))) ∷ [] }
 {}
 
 /// A fold says what is built, inner parts first.
 #[tactic(auto, unfolding(vx_frac::specs::Fractions::lowest, vx_rules::specs::Members::rules))]
 pub fn built_snapshots()
-    ensures folds_two { questions_of applications folds_two ≡ asks (at 10 88) PermissionCode (differ (ref 0) null ∷ differ (ref 1) null ∷ differ (ref 0) (ref 1) ∷ implied (equal (ref 1) (ref 0)) (equal (int 3) (int 2)) ∷ equal (as_int (wrapped_int (int 2))) (int 2) ∷ equal (as_int (wrapped_int (int 3))) (int 3) ∷ equal (first (pair (wrapped_int (int 2)) (wrapped_int (int 3)))) (wrapped_int (int 2)) ∷ equal (second (pair (wrapped_int (int 2)) (wrapped_int (int 3)))) (wrapped_int (int 3)) ∷ equal (snap 4) (pair (wrapped_int (int 2)) (wrapped_int (int 3))) ∷ []) falsity ∷ [] }
+    ensures folds_two { questions_of applications folds_two ≡ asks (at 10 88) PermissionCode (differ (ref 0) null ∷ differ (ref 1) null
+        ∷ differ (ref 0) (ref 1) ∷ implied (equal (ref 1) (ref 0)) (equal (int 3) (int 2)) ∷ equal (as_int (wrapped_int (int 2))) (int 2)
+        ∷ equal (as_int (wrapped_int (int 3))) (int 3) ∷ equal (first (pair (wrapped_int (int 2)) (wrapped_int (int 3)))) (wrapped_int (int 2))
+        ∷ equal (second (pair (wrapped_int (int 2)) (wrapped_int (int 3)))) (wrapped_int (int 3))
+        ∷ equal (snap 4) (pair (wrapped_int (int 2)) (wrapped_int (int 3))) ∷ []) falsity ∷ [] }
 {}
 
 /// An unfold says what the snapshot is made of.
 #[tactic(auto, unfolding(vx_frac::specs::Fractions::lowest, vx_rules::specs::Members::rules))]
 pub fn split_snapshots()
-    ensures unfolds_two { questions_of applications unfolds_two ≡ asks (at 11 81) AssertCode (equal (snap 2) (pair (first (snap 2)) (second (snap 2))) ∷ equal (int 3) (as_int (first (snap 2))) ∷ equal (first (snap 2)) (wrapped_int (int 3)) ∷ differ (ref 0) null ∷ equal (int 4) (as_int (second (snap 2))) ∷ equal (second (snap 2)) (wrapped_int (int 4)) ∷ differ (ref 1) null ∷ differ (ref 0) (ref 1) ∷ implied (equal (ref 1) (ref 0)) (equal (int 4) (int 3)) ∷ []) (equal (int 3) (int 4)) ∷ [] }
+    ensures unfolds_two { questions_of applications unfolds_two ≡ asks (at 11 81) AssertCode (equal (snap 2) (pair (first (snap 2)) (second (snap 2)))
+        ∷ equal (int 3) (as_int (first (snap 2))) ∷ equal (first (snap 2)) (wrapped_int (int 3)) ∷ differ (ref 0) null
+        ∷ equal (int 4) (as_int (second (snap 2))) ∷ equal (second (snap 2)) (wrapped_int (int 4)) ∷ differ (ref 1) null ∷ differ (ref 0) (ref 1)
+        ∷ implied (equal (ref 1) (ref 0)) (equal (int 4) (int 3)) ∷ []) (equal (int 3) (int 4)) ∷ [] }
 {}
 
 /// The codes of what is not true or not held.
 #[tactic(auto, unfolding(vx_frac::specs::Fractions::lowest, vx_rules::specs::Members::rules))]
 pub fn codes()
-    ensures folds_positive { questions_of applications folds_positive ≡ asks (at 12 51) FoldCode (differ (ref 0) null ∷ equal (as_int (wrapped_int (int 1))) (int 1) ∷ []) (less (number 0) (int 1)) ∷ [] }
+    ensures folds_positive { questions_of applications folds_positive ≡ asks (at 12 51) FoldCode (differ (ref 0) null
+        ∷ equal (as_int (wrapped_int (int 1))) (int 1) ∷ []) (less (number 0) (int 1)) ∷ [] }
     ensures loses { questions_of applications loses ≡ asks (at 13 48) PostCode (differ (ref 0) null ∷ []) falsity ∷ [] }
     ensures loop_without { questions_of applications loop_without ≡ asks (at 14 60) EntryCode [] falsity ∷ [] }
     ensures loop_loses { questions_of applications loop_loses ≡ asks (at 15 76) KeptCode (differ (ref 0) null ∷ bool 1 ∷ []) falsity ∷ [] }

@@ -35,7 +35,8 @@ pub fn bounded_amounts()
 /// Instances with identical arguments merge, and their snapshots agree.
 #[tactic(auto, unfolding(vx_frac::specs::Fractions::lowest, vx_rules::specs::Members::rules))]
 pub fn merged_instances()
-    ensures merges { questions_of branches merges ≡ asks (at 33 93) AssertCode (equal (snap 1) (snap 2) ∷ equal (int 3) (as_int (snap 1)) ∷ equal (snap 1) (wrapped_int (int 3)) ∷ differ (ref 0) null ∷ []) (equal (int 3) (number 0)) ∷ [] }
+    ensures merges { questions_of branches merges ≡ asks (at 33 93) AssertCode (equal (snap 1) (snap 2) ∷ equal (int 3) (as_int (snap 1))
+        ∷ equal (snap 1) (wrapped_int (int 3)) ∷ differ (ref 0) null ∷ []) (equal (int 3) (number 0)) ∷ [] }
 {}
 
 /// An instance with other arguments is probed, and last is asked that none is wanted.

@@ -58,7 +58,8 @@ pub fn iterations()
 
 /// A call takes the precondition and gives the postcondition; it fails where the one isn't held or the other isn't framed.
 pub fn calling()
-    ensures returns { run_all cells calls owner (Ends (state (with_y (pos 5)) (with_x_f (pos 5)) (gained (At x_f) (product full full) (lost (At x_f) (product full full) owner.holdings)))) }
+    ensures returns { run_all cells calls owner (Ends (state (with_y (pos 5)) (with_x_f (pos 5)) (gained (At x_f) (product full full)
+        (lost (At x_f) (product full full) owner.holdings)))) }
     ensures unheld_fails { run_all cells calls sharer (FailsAt (at 1 3)) }
     ensures unheld_never_ends { (t : State) → run_all cells calls sharer (Ends t) → ⊥ }
     ensures false_stops { run_all cells calls_never poor Stops }

@@ -46,14 +46,18 @@ pub fn right_parts()
 #[tactic(auto, unfolding(vx_frac::specs::Fractions::lowest))]
 pub fn reads()
     ensures candidates_in_order { questions_of branches candidates_in_order ≡
-        asks (at 11 101) PermissionCode (differ (ref 0) null ∷ differ (ref 1) null ∷ implied (equal (ref 1) (ref 0)) (equal (int 4) (int 3)) ∷ []) (less none (plus (chosen_term (equal (ref 0) (ref 2)) half none) (chosen_term (equal (ref 1) (ref 2)) half none)))
-        ∷ asks (at 11 101) AssertCode (differ (ref 0) null ∷ differ (ref 1) null ∷ implied (equal (ref 1) (ref 0)) (equal (int 4) (int 3)) ∷ less none (plus (chosen_term (equal (ref 0) (ref 2)) half none) (chosen_term (equal (ref 1) (ref 2)) half none)) ∷ implied (equal (ref 0) (ref 2)) (equal (int 5) (int 3)) ∷ implied (equal (ref 1) (ref 2)) (equal (int 5) (int 4)) ∷ []) (equal (int 5) (number 0)) ∷ [] }
+        asks (at 11 101) PermissionCode (differ (ref 0) null ∷ differ (ref 1) null ∷ implied (equal (ref 1) (ref 0)) (equal (int 4) (int 3)) ∷ [])
+        (less none (plus (chosen_term (equal (ref 0) (ref 2)) half none) (chosen_term (equal (ref 1) (ref 2)) half none)))
+        ∷ asks (at 11 101) AssertCode (differ (ref 0) null ∷ differ (ref 1) null ∷ implied (equal (ref 1) (ref 0)) (equal (int 4) (int 3))
+        ∷ less none (plus (chosen_term (equal (ref 0) (ref 2)) half none) (chosen_term (equal (ref 1) (ref 2)) half none)) ∷ implied (equal (ref 0) (ref 2))
+        (equal (int 5) (int 3)) ∷ implied (equal (ref 1) (ref 2)) (equal (int 5) (int 4)) ∷ []) (equal (int 5) (number 0)) ∷ [] }
 {}
 
 /// An unfolding reads what is in the body by the snapshot, and leaves the instance.
 #[tactic(auto, unfolding(vx_frac::specs::Fractions::lowest, vx_rules::specs::Members::rules))]
 pub fn unfoldings()
-    ensures peek { questions_of branches peek ≡ asks (at 12 47) AssertCode (equal (int 2) (as_int (snap 1)) ∷ equal (snap 1) (wrapped_int (int 2)) ∷ differ (ref 0) null ∷ []) (equal (int 2) (number 0)) ∷ [] }
+    ensures peek { questions_of branches peek ≡ asks (at 12 47) AssertCode (equal (int 2) (as_int (snap 1)) ∷ equal (snap 1) (wrapped_int (int 2))
+        ∷ differ (ref 0) null ∷ []) (equal (int 2) (number 0)) ∷ [] }
     ensures peek_bare { questions_of branches peek_bare ≡ asks (at 13 35) UnfoldCode [] falsity ∷ [] }
     ensures peek_none { questions_of branches peek_none ≡ asks (at 14 35) AmountCode [] falsity ∷ [] }
 {}

@@ -24,10 +24,12 @@ pub fn an_exhale_twice()
 /// Two halves may be of one reference, and then have one value; two wholes not.
 #[tactic(auto, unfolding(vx_frac::specs::Fractions::lowest))]
 pub fn receivers_may_be_the_same()
-    ensures halves { questions_of maybe_same m ≡ asks (at 5 8) AssertCode (differ (ref 0) null ∷ differ (ref 1) null ∷ implied (equal (ref 1) (ref 0)) (equal (int 3) (int 2)) ∷ []) (differ (ref 0) (ref 1)) ∷ [] }
+    ensures halves { questions_of maybe_same m ≡ asks (at 5 8) AssertCode (differ (ref 0) null ∷ differ (ref 1) null
+        ∷ implied (equal (ref 1) (ref 0)) (equal (int 3) (int 2)) ∷ []) (differ (ref 0) (ref 1)) ∷ [] }
     ensures halves_failed { ending_of maybe_same m (Sat ∷ []) ≡ Failed (at 5 8) AssertCode Sat }
     ensures wholes { questions_of never_same m ≡
-        asks (at 5 8) AssertCode (differ (ref 0) null ∷ differ (ref 1) null ∷ differ (ref 0) (ref 1) ∷ implied (equal (ref 1) (ref 0)) (equal (int 3) (int 2)) ∷ []) (differ (ref 0) (ref 1)) ∷ [] }
+        asks (at 5 8) AssertCode (differ (ref 0) null ∷ differ (ref 1) null ∷ differ (ref 0) (ref 1) ∷ implied (equal (ref 1) (ref 0))
+        (equal (int 3) (int 2)) ∷ []) (differ (ref 0) (ref 1)) ∷ [] }
     ensures wholes_passed { ending_of never_same m (Unsat ∷ []) ≡ Passed }
 {}
 

@@ -85,11 +85,15 @@ pub fn told_across_a_group()
 pub fn an_application_behind_a_branch()
     ensures asked { questions_of behind m ≡
         asks (at 4 14) FunctionCode (implied (bool 0) (less (number 0) (int 1)) ∷ bool 0 ∷ []) (less (number 0) (int 1))
-        ∷ asks (at 4 8) AssertCode (implied (bool 0) (less (number 0) (int 1)) ∷ bool 0 ∷ less (number 0) (int 1) ∷ equal (int_at 0 (int 1)) (minus (int 1) (number 1)) ∷ []) (at_most (number 0) (int_at 0 (int 1)))
-        ∷ asks (at 5 8) FunctionCode (implied (bool 0) (less (number 0) (int 1)) ∷ bool 0 ∷ less (number 0) (int 1) ∷ equal (int_at 0 (int 1)) (minus (int 1) (number 1)) ∷ at_most (number 0) (int_at 0 (int 1)) ∷ []) (less (number 0) (int 1))
-        ∷ asks (at 5 8) AssertCode (implied (bool 0) (less (number 0) (int 1)) ∷ bool 0 ∷ less (number 0) (int 1) ∷ equal (int_at 0 (int 1)) (minus (int 1) (number 1)) ∷ at_most (number 0) (int_at 0 (int 1)) ∷ []) (at_most (number 0) (int_at 0 (int 1)))
+        ∷ asks (at 4 8) AssertCode (implied (bool 0) (less (number 0) (int 1)) ∷ bool 0 ∷ less (number 0) (int 1) ∷ equal (int_at 0 (int 1))
+        (minus (int 1) (number 1)) ∷ []) (at_most (number 0) (int_at 0 (int 1)))
+        ∷ asks (at 5 8) FunctionCode (implied (bool 0) (less (number 0) (int 1)) ∷ bool 0 ∷ less (number 0) (int 1) ∷ equal (int_at 0 (int 1))
+        (minus (int 1) (number 1)) ∷ at_most (number 0) (int_at 0 (int 1)) ∷ []) (less (number 0) (int 1))
+        ∷ asks (at 5 8) AssertCode (implied (bool 0) (less (number 0) (int 1)) ∷ bool 0 ∷ less (number 0) (int 1) ∷ equal (int_at 0 (int 1))
+        (minus (int 1) (number 1)) ∷ at_most (number 0) (int_at 0 (int 1)) ∷ []) (at_most (number 0) (int_at 0 (int 1)))
         ∷ asks (at 5 8) FunctionCode (implied (bool 0) (less (number 0) (int 1)) ∷ denied (bool 0) ∷ []) (less (number 0) (int 1))
-        ∷ asks (at 5 8) AssertCode (implied (bool 0) (less (number 0) (int 1)) ∷ denied (bool 0) ∷ less (number 0) (int 1) ∷ equal (int_at 0 (int 1)) (minus (int 1) (number 1)) ∷ []) (at_most (number 0) (int_at 0 (int 1))) ∷ [] }
+        ∷ asks (at 5 8) AssertCode (implied (bool 0) (less (number 0) (int 1)) ∷ denied (bool 0) ∷ less (number 0) (int 1) ∷ equal (int_at 0 (int 1))
+        (minus (int 1) (number 1)) ∷ []) (at_most (number 0) (int_at 0 (int 1))) ∷ [] }
     ensures failed { ending_of behind m (Unsat ∷ Unsat ∷ Unsat ∷ Unsat ∷ Sat ∷ []) ≡ Failed (at 5 8) FunctionCode Sat }
 {}
 
@@ -98,7 +102,8 @@ pub fn an_application_behind_a_branch()
 pub fn a_chain_of_applications()
     ensures asked { questions_of chained m ≡
         asks (at 7 17) AssertCode (bool 1 ∷ equal (int_at 3 (int 0)) (plus (int 0) (number 4)) ∷ less (int 0) (int_at 3 (int 0)) ∷ []) (equal (int_at 3 (int 0)) (plus (int 0) (number 4)))
-        ∷ asks (at 8 8) AssertCode (bool 1 ∷ equal (int_at 3 (int 0)) (plus (int 0) (number 4)) ∷ less (int 0) (int_at 3 (int 0)) ∷ chain_told ∷ []) (equal (int_at 0 (int 0)) (plus (int 0) (number 10)))
+        ∷ asks (at 8 8) AssertCode (bool 1 ∷ equal (int_at 3 (int 0)) (plus (int 0) (number 4)) ∷ less (int 0) (int_at 3 (int 0)) ∷ chain_told ∷ [])
+        (equal (int_at 0 (int 0)) (plus (int 0) (number 10)))
         ∷ asks (at 8 8) AssertCode (denied (bool 1) ∷ chain_told ∷ []) (equal (int_at 0 (int 0)) (plus (int 0) (number 10))) ∷ [] }
     ensures failed { ending_of chained m (Unsat ∷ Unsat ∷ Sat ∷ []) ≡ Failed (at 8 8) AssertCode Sat }
 {}

@@ -71,8 +71,14 @@ pub fn fresh_values()
     ensures forgotten_next { (members.forget [] (y ∷ f ∷ y ∷ x ∷ []) scene).next ≡ 9 }
     ensures nothing_forgotten { members.forget [] [] scene ≡ scene }
     ensures names { members.names_of (plus (int 0) (number 1) ∷ number 2 ∷ plus (int 1) (number 1) ∷ []) scene ≡ int 7 ∷ number 2 ∷ int 8 ∷ [] }
-    ensures distinct_held { members.distinct (ref 9) (record members.blank { store = (x, ref 0) ∷ (y, int 1) ∷ []; heap = field_chunk f (ref 1) (real 2) (ref 3) ∷ []; old = field_chunk g (ref 4) all (int 5) ∷ cell_chunk (ref 6) all (snap 7) ∷ [] }) ≡
-        differ (ref 9) null ∷ differ (ref 9) (ref 0) ∷ implied (less none (real 2)) (differ (ref 9) (ref 1)) ∷ implied (less none (real 2)) (differ (ref 9) (ref 3)) ∷ differ (ref 9) (ref 4) ∷ [] }
+    ensures distinct_held { members.distinct (ref 9) (record members.blank {
+      store = (x, ref 0) ∷ (y, int 1) ∷ [];
+      heap = field_chunk f (ref 1) (real 2)
+          (ref 3) ∷ [];
+      old = field_chunk g (ref 4) all (int 5) ∷ cell_chunk (ref 6) all (snap 7) ∷ [];
+    }) ≡
+        differ (ref 9) null ∷ differ (ref 9) (ref 0) ∷ implied (less none (real 2)) (differ (ref 9) (ref 1)) ∷ implied (less none (real 2))
+        (differ (ref 9) (ref 3)) ∷ differ (ref 9) (ref 4) ∷ [] }
     ensures sorts_of_int { states.sort_of_type Int ≡ IntSort }
     ensures sorts_of_bool { states.sort_of_type type.Bool ≡ BoolSort }
     ensures sorts_of_ref { states.sort_of_type type.Ref ≡ RefSort }

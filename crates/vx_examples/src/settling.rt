@@ -48,11 +48,15 @@ pub fn settled_expressions()
     ensures expressions { Computes resolve.expression settling.of_expressions }
     ensures assertions { Computes (resolve.assertion settling.names) settling.of_assertions }
     ensures purity { Computes (resolve.is_pure settling.names) settling.of_purity }
-    ensures clauses { resolve.assertions settling.names (written.More settling.written_held (written.More settling.written_true written.NoMore)) ≡ settling.held ∷ syntax.Pure settling.truth ∷ [] }
+    ensures clauses { resolve.assertions settling.names (written.More settling.written_held (written.More settling.written_true written.NoMore))
+        ≡ settling.held ∷ syntax.Pure settling.truth ∷ [] }
     ensures no_clauses { resolve.assertions settling.names written.NoMore ≡ [] }
-    ensures required { written.requires_of (written.Ensures settling.written_sum ∷ written.Requires settling.written_true ∷ written.Decreases settling.written_sum ∷ written.Requires settling.written_held ∷ []) ≡ settling.written_true ∷ settling.written_held ∷ [] }
-    ensures ensured { written.ensures_of (written.Ensures settling.written_sum ∷ written.Requires settling.written_true ∷ written.Decreases settling.written_sum ∷ written.Ensures settling.written_held ∷ []) ≡ settling.written_sum ∷ settling.written_held ∷ [] }
-    ensures measured { written.measure_of (written.Ensures settling.written_true ∷ written.Requires settling.written_true ∷ written.Decreases settling.written_sum ∷ written.Decreases settling.written_true ∷ []) ≡ Some settling.written_sum }
+    ensures required { written.requires_of (written.Ensures settling.written_sum ∷ written.Requires settling.written_true
+        ∷ written.Decreases settling.written_sum ∷ written.Requires settling.written_held ∷ []) ≡ settling.written_true ∷ settling.written_held ∷ [] }
+    ensures ensured { written.ensures_of (written.Ensures settling.written_sum ∷ written.Requires settling.written_true
+        ∷ written.Decreases settling.written_sum ∷ written.Ensures settling.written_held ∷ []) ≡ settling.written_sum ∷ settling.written_held ∷ [] }
+    ensures measured { written.measure_of (written.Ensures settling.written_true ∷ written.Requires settling.written_true
+        ∷ written.Decreases settling.written_sum ∷ written.Decreases settling.written_true ∷ []) ≡ Some settling.written_sum }
     ensures not_measured { written.measure_of (written.Ensures settling.written_true ∷ []) ≡ None }
     ensures measures { Computes (resolve.measure settling.names) settling.measures }
 {}

@@ -28,13 +28,15 @@ pub fn named_writes()
 /// A write of another reference is asked about by the sum over the chunk that may be its.
 #[tactic(auto, unfolding(vx_frac::specs::Fractions::lowest))]
 pub fn other_writes()
-    ensures writes_other { questions_of branches writes_other ≡ asks (at 38 57) PermissionCode (differ (ref 0) null ∷ []) (at_most all (chosen_term (equal (ref 0) (ref 1)) all none)) ∷ [] }
+    ensures writes_other { questions_of branches writes_other ≡ asks (at 38 57) PermissionCode (differ (ref 0) null ∷ [])
+        (at_most all (chosen_term (equal (ref 0) (ref 1)) all none)) ∷ [] }
 {}
 
 /// A new reference differs from null, from those of the store and from those of what is held.
 #[tactic(auto, unfolding(vx_frac::specs::Fractions::lowest))]
 pub fn new_references()
-    ensures creates { questions_of branches creates ≡ asks (at 23 74) AssertCode (differ (ref 0) null ∷ differ (ref 3) null ∷ differ (ref 3) (ref 0) ∷ differ (ref 3) (ref 2) ∷ differ (ref 3) (ref 1) ∷ []) (differ (ref 3) (ref 1)) ∷ [] }
+    ensures creates { questions_of branches creates ≡ asks (at 23 74) AssertCode (differ (ref 0) null ∷ differ (ref 3) null ∷ differ (ref 3) (ref 0)
+        ∷ differ (ref 3) (ref 2) ∷ differ (ref 3) (ref 1) ∷ []) (differ (ref 3) (ref 1)) ∷ [] }
 {}
 
 /// A fact that is in the path is not added again.

@@ -56,7 +56,8 @@ pub fn what_is_taken_is_gone()
 pub fn parts_of_sums()
     ensures none_there { chunks.sum_at (ref 0) [] ≡ none }
     ensures there { chunks.sum_at (ref 0) (candidate 0 (ref 0) half ∷ candidate 1 (ref 1) all ∷ []) ≡ plus half (chosen_term (equal (ref 1) (ref 0)) all none) }
-    ensures surely { chunks.surely (chunks.holds_amount all (ref 0 ∷ [])) (candidate 0 (ref 0) half ∷ candidate 1 (ref 1) all ∷ candidate 2 (ref 0) all ∷ []) ≡ Some (candidate 2 (ref 0) all) }
+    ensures surely { chunks.surely (chunks.holds_amount all (ref 0 ∷ [])) (candidate 0 (ref 0) half ∷ candidate 1 (ref 1) all ∷ candidate 2 (ref 0) all ∷ [])
+        ≡ Some (candidate 2 (ref 0) all) }
     ensures not_surely { chunks.surely (chunks.holds_amount all (ref 0 ∷ [])) (candidate 0 (ref 0) half ∷ candidate 1 (ref 1) all ∷ []) ≡ None }
     ensures share { chunks.share (ref 0) all (field_chunk f (ref 0) half (int 1)) ≡ half }
     ensures share_of_more { chunks.share (ref 0) half (field_chunk f (ref 0) all (int 1)) ≡ half }

@@ -49,7 +49,8 @@ pub fn operands()
     ensures no_fuel { evaluate.applications cells 0 get (RefValue 1 ∷ []) poor ≡ None }
     ensures no_function { evaluate.applications cells 1 cell (RefValue 1 ∷ []) poor ≡ None }
     ensures applied { evaluate.applications cells 1 get (RefValue 1 ∷ []) poor ≡ Some (IntValue (pos 5)) }
-    ensures values_in_order { evaluate.values cells (evaluate.applications cells 0) poor (syntax.More untyped.x_var (syntax.More untyped.y_var syntax.NoMore)) ≡ Some (RefValue 1 ∷ IntValue (pos 0) ∷ []) }
+    ensures values_in_order { evaluate.values cells (evaluate.applications cells 0) poor
+        (syntax.More untyped.x_var (syntax.More untyped.y_var syntax.NoMore)) ≡ Some (RefValue 1 ∷ IntValue (pos 0) ∷ []) }
     ensures no_variable { evaluate.values cells (evaluate.applications cells 0) poor (syntax.More untyped.x_var (syntax.More (syntax.Variable (at 1 4) f) syntax.NoMore)) ≡ None }
 {}
 
@@ -137,7 +138,8 @@ pub fn parts_of_failures()
     ensures of_right { failing.of_right syntax.Or (Some (BoolValue false)) ((get, []) ∷ []) ≡ (get, []) ∷ [] }
     ensures of_left_alone { failing.of_right syntax.Or (Some (BoolValue true)) ((get, []) ∷ []) ≡ [] }
     ensures of_no_left { failing.of_right syntax.Or None ((get, []) ∷ []) ≡ [] }
-    ensures in_order { failing.evaluated_in cells 1 poor (syntax.More (syntax.Apply (at 1 1) get untyped.one_x) (syntax.More untyped.y_var syntax.NoMore)) ≡ (get, RefValue 1 ∷ []) ∷ [] }
+    ensures in_order { failing.evaluated_in cells 1 poor (syntax.More (syntax.Apply (at 1 1) get untyped.one_x) (syntax.More untyped.y_var syntax.NoMore))
+        ≡ (get, RefValue 1 ∷ []) ∷ [] }
     ensures nothing { failing.evaluated_in cells 1 poor syntax.NoMore ≡ [] }
     ensures two_kinds { failing.Lowers [] [] (failing.Inside a_cell) (failing.Number (pos 1)) → ⊥ }
 {}

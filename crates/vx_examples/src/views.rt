@@ -121,18 +121,29 @@ pub fn paths_and_indices()
 #[tactic(auto, unfolding(vx_rules::specs::Members::rules))]
 pub fn operands_that_wait()
     ensures negate { (on : Giving) → operand [] operand'.Negate on (bool 0) scene ≡ Step (on (denied (bool 0)) scene) }
-    ensures operate_right { (b : Rc Expr' Global) (on : Giving) → operand [] (operand'.OperateRight operator'.Greater b) on (int 0) scene ≡ Step (rules.eval [] (rules.outer [] 4) (expr b.value) scene (λ u s. Step (on (rules.operated syntax.Greater (int 0) u) s))) }
+    ensures operate_right { (b : Rc Expr' Global) (on : Giving) → operand [] (operand'.OperateRight operator'.Greater b) on (int 0) scene
+        ≡ Step (rules.eval [] (rules.outer [] 4) (expr b.value) scene (λ u s. Step (on (rules.operated syntax.Greater (int 0) u) s))) }
     ensures operate_with { (t : Rc Term' Global) (on : Giving) → operand [] (operand'.OperateWith operator'.Subtract t) on (number 0) scene ≡ Step (on (held_term t) scene) }
-    ensures connect_right { (b : Rc Expr' Global) (on : Giving) → operand [] (operand'.ConnectRight connective'.Or b) on (bool 0) scene ≡ Step (rules.eval [] (rules.outer [] 4) (expr b.value) scene (λ u s. Step (on (rules.connected syntax.Or (bool 0) u) s))) }
-    ensures connect_with { (t : Rc Term' Global) (on : Giving) → operand [] (operand'.ConnectWith connective'.Implies t) on truth scene ≡ Step (on (rules.connected syntax.Implies (held_term t) truth) scene) }
+    ensures connect_right { (b : Rc Expr' Global) (on : Giving) → operand [] (operand'.ConnectRight connective'.Or b) on (bool 0) scene
+        ≡ Step (rules.eval [] (rules.outer [] 4) (expr b.value) scene (λ u s. Step (on (rules.connected syntax.Or (bool 0) u) s))) }
+    ensures connect_with { (t : Rc Term' Global) (on : Giving) → operand [] (operand'.ConnectWith connective'.Implies t) on truth scene
+        ≡ Step (on (rules.connected syntax.Implies (held_term t) truth) scene) }
     ensures connect_sides { (b : Rc Expr' Global) (on : Giving) → operand [] (operand'.ConnectSides connective'.And b) on falsity scene ≡ Step (on falsity scene) }
-    ensures connect_needed { (b : Rc Expr' Global) (on : Giving) → operand [] (operand'.ConnectSides connective'.And b) on (bool 0) scene ≡ Step (rules.eval [] (rules.outer [] 4) (expr b.value) scene on) }
-    ensures choose_then { (a b : Rc Expr' Global) (on : Giving) → operand [] (operand'.ChooseThen a b) on (bool 0) scene ≡ Step (rules.eval [] (rules.outer [] 4) (expr a.value) scene (λ u s. Step (rules.eval [] (rules.outer [] 4) (expr b.value) s (λ v s1. Step (on (make.ite (bool 0) u v) s1))))) }
-    ensures choose_else { (t : Rc Term' Global) (b : Rc Expr' Global) (on : Giving) → operand [] (operand'.ChooseElse t b) on (int 2) scene ≡ Step (rules.eval [] (rules.outer [] 4) (expr b.value) scene (λ v s. Step (on (make.ite (held_term t) (int 2) v) s))) }
-    ensures choose_with { (t u : Rc Term' Global) (on : Giving) → operand [] (operand'.ChooseWith t u) on (int 2) scene ≡ Step (on (make.ite (held_term t) (held_term u) (int 2)) scene) }
-    ensures choose_sides { (a b : Rc Expr' Global) (on : Giving) → operand [] (operand'.ChooseSides a b) on falsity scene ≡ Step (rules.eval [] (rules.outer [] 4) (expr b.value) scene on) }
-    ensures divide_with { (t : Rc Term' Global) (on : Giving) → operand [] (operand'.DivideWith (at 1 1) division'.Quotient t) on (number 2) scene ≡ Step (on (rules.divided syntax.Quotient (held_term t) (number 2)) scene) }
-    ensures receiver { (x : Rc (String Global) Global) (on : Giving) → operand [] (operand'.Receiver (at 1 1) x) on (int 0) scene ≡ rules.read_field (string_bytes x.value) (int 0) (rules.field_sort [] (string_bytes x.value)) (at 1 1) scene on }
+    ensures connect_needed { (b : Rc Expr' Global) (on : Giving) → operand [] (operand'.ConnectSides connective'.And b) on (bool 0) scene
+        ≡ Step (rules.eval [] (rules.outer [] 4) (expr b.value) scene on) }
+    ensures choose_then { (a b : Rc Expr' Global) (on : Giving) → operand [] (operand'.ChooseThen a b) on (bool 0) scene
+        ≡ Step (rules.eval [] (rules.outer [] 4) (expr a.value) scene (λ u s. Step
+        (rules.eval [] (rules.outer [] 4) (expr b.value) s (λ v s1. Step (on (make.ite (bool 0) u v) s1))))) }
+    ensures choose_else { (t : Rc Term' Global) (b : Rc Expr' Global) (on : Giving) → operand [] (operand'.ChooseElse t b) on (int 2) scene
+        ≡ Step (rules.eval [] (rules.outer [] 4) (expr b.value) scene (λ v s. Step (on (make.ite (held_term t) (int 2) v) s))) }
+    ensures choose_with { (t u : Rc Term' Global) (on : Giving) → operand [] (operand'.ChooseWith t u) on (int 2) scene
+        ≡ Step (on (make.ite (held_term t) (held_term u) (int 2)) scene) }
+    ensures choose_sides { (a b : Rc Expr' Global) (on : Giving) → operand [] (operand'.ChooseSides a b) on falsity scene
+        ≡ Step (rules.eval [] (rules.outer [] 4) (expr b.value) scene on) }
+    ensures divide_with { (t : Rc Term' Global) (on : Giving) → operand [] (operand'.DivideWith (at 1 1) division'.Quotient t) on (number 2) scene
+        ≡ Step (on (rules.divided syntax.Quotient (held_term t) (number 2)) scene) }
+    ensures receiver { (x : Rc (String Global) Global) (on : Giving) → operand [] (operand'.Receiver (at 1 1) x) on (int 0) scene
+        ≡ rules.read_field (string_bytes x.value) (int 0) (rules.field_sort [] (string_bytes x.value)) (at 1 1) scene on }
     ensures restore { (h : Rc SymHeap Global) (on : Giving) → operand [] (operand'.Restore h) on (int 0) with_chunks ≡ Step (on (int 0) (record with_chunks { heap = heap h.value })) }
 {}
 
@@ -141,28 +152,39 @@ pub fn operands_that_wait()
 pub fn parts_that_wait()
     ensures context { context (record { pure = code'.Postcondition; permission = code'.Call; builds = false }) ≡ members.codes PostCode CallCode }
     ensures building { context (record { pure = code'.Fold; permission = code'.Fold; builds = true }) ≡ record { pure = FoldCode; permission = FoldCode; builds = true } }
-    ensures asked { (h : Rc SymHeap Global) (on : Giving) → consumed [] (consumed'.Ask (at 1 1) code'.Assert h) on truth with_chunks ≡ Step (Step (on unit (record with_chunks { heap = heap h.value }))) }
+    ensures asked { (h : Rc SymHeap Global) (on : Giving) → consumed [] (consumed'.Ask (at 1 1) code'.Assert h) on truth with_chunks
+        ≡ Step (Step (on unit (record with_chunks { heap = heap h.value }))) }
     ensures right { (b : Rc Assertion' Global) (x : Rc Consumption Global) (on : Giving) → consumed [] (consumed'.Right b x) on (snap 1) scene ≡
         rules.consume [] (rules.outer [] 4) (assertion b.value) (context x.value.codes) (held_term x.value.scale) (heap x.value.start.value) scene
         (λ u s. Step (on (pair (snap 1) u) (rules.with_built_pair (context x.value.codes) (snap 1) u s))) }
-    ensures with_left { (t : Rc Term' Global) (on : Giving) → consumed [] (consumed'.With t (record { pure = code'.Assert; permission = code'.Permission; builds = false })) on unit scene ≡ Step (on (pair (held_term t) unit) scene) }
+    ensures with_left { (t : Rc Term' Global) (on : Giving) → consumed []
+        (consumed'.With t (record { pure = code'.Assert; permission = code'.Permission; builds = false })) on unit scene
+        ≡ Step (on (pair (held_term t) unit) scene) }
     ensures with_facts { (t : Rc Term' Global) (on : Giving) → consumed [] (consumed'.With t (record { pure = code'.Fold; permission = code'.Fold; builds = true })) on unit scene ≡
         Step (on (pair (held_term t) unit) (states.with_facts (rules.pair_facts (held_term t) unit) scene)) }
     ensures wanted_some { (x : Search) (c : states.Chunk) → x.amount ≡ None → wanted x c ≡ chunks.holds_some (terms_of x.arguments.items) c }
     ensures fact { (on : Going) → produced [] (produced'.Fact None) on (bool 0) scene ≡ Step (on scene) }
-    ensures put { (x : Rc (String Global) Global) (r : Rc Term' Global) (how : Rc Production Global) (on : Going) → produced [] (produced'.Amount (at 1 1) x r how true) on (real 0) scene ≡
+    ensures put { (x : Rc (String Global) Global) (r : Rc Term' Global) (how : Rc Production Global) (on : Going)
+        → produced [] (produced'.Amount (at 1 1) x r how true) on (real 0) scene ≡
         putting [] (at 1 1) (string_bytes x.value) (held_term r) (make.multiply (held_term how.value.scale) (real 0)) (optional_term how.value.snapshot) true scene on }
-    ensures produced_side { (a : Rc Assertion' Global) (how : Rc Production Global) (on : Going) → produced [] (produced'.Implied a how) on falsity scene ≡ Step (on (rules.with_unit (optional_term how.value.snapshot) scene)) }
-    ensures wraps { (x : Rc (String Global) Global) (on : Giving) → consumed [] (consumed'.Wrap x (record { pure = code'.Assert; permission = code'.Permission; builds = false })) on (int 0) scene ≡ Step (on (make.wrap (rules.field_sort [] (string_bytes x.value)) (int 0)) scene) }
-    ensures consumed_side { (a : Rc Assertion' Global) (x : Rc Consumption Global) (h : Rc SymHeap Global) (on : Giving) → consumed [] (consumed'.Implied a x h) on falsity with_chunks ≡ Step (on unit (record with_chunks { heap = heap h.value })) }
+    ensures produced_side { (a : Rc Assertion' Global) (how : Rc Production Global) (on : Going) → produced [] (produced'.Implied a how) on falsity scene
+        ≡ Step (on (rules.with_unit (optional_term how.value.snapshot) scene)) }
+    ensures wraps { (x : Rc (String Global) Global) (on : Giving) → consumed []
+        (consumed'.Wrap x (record { pure = code'.Assert; permission = code'.Permission; builds = false })) on (int 0) scene
+        ≡ Step (on (make.wrap (rules.field_sort [] (string_bytes x.value)) (int 0)) scene) }
+    ensures consumed_side { (a : Rc Assertion' Global) (x : Rc Consumption Global) (h : Rc SymHeap Global) (on : Giving)
+        → consumed [] (consumed'.Implied a x h) on falsity with_chunks ≡ Step (on unit (record with_chunks { heap = heap h.value })) }
     ensures assume { (on : Going) → executed [] executed'.Assume on (bool 0) scene ≡ Step (on scene) }
     ensures asserted { (h : Rc SymHeap Global) (on : Going) → executed [] (executed'.Asserted h) on unit with_chunks ≡ Step (on (record with_chunks { heap = heap h.value })) }
     ensures exhaled { (on : Going) → executed [] executed'.Exhaled on unit with_chunks ≡ Step (on with_chunks) }
-    ensures chosen { (a b : Rc Block' Global) (on : Going) → executed [] (executed'.If a b 1) on (bool 0) scene ≡ Step (members.exec_all [] (rules.outer [] 4) (block a.value) scene (λ s. on (states.leave 1 s))) }
+    ensures chosen { (a b : Rc Block' Global) (on : Going) → executed [] (executed'.If a b 1) on (bool 0) scene
+        ≡ Step (members.exec_all [] (rules.outer [] 4) (block a.value) scene (λ s. on (states.leave 1 s))) }
     ensures passes { (on : Going) → executed [] executed'.Pass on (bool 0) scene ≡ Step (on (states.with_branch (denied (bool 0)) scene)) }
     ensures enters { (l : Rc Loop Global) (on : Going) → executed [] (executed'.Enter l 1) on unit with_chunks ≡
-        Fork (from_invariant [] l.value (states.with_heap [] (forgotten [] l.value with_chunks)) (iterated [] l.value 1)) (from_invariant [] l.value (forgotten [] l.value with_chunks) (λ u s. Step (on (states.with_branch (make.negate u) s)))) }
-    ensures assigned { (x : Rc (String Global) Global) (on : Going) → executed [] (executed'.Assign x) on (number 3) scene ≡ Step (on (states.with_store (states.assign (string_bytes x.value) (number 3) scene.store) scene)) }
+        Fork (from_invariant [] l.value (states.with_heap [] (forgotten [] l.value with_chunks)) (iterated [] l.value 1))
+        (from_invariant [] l.value (forgotten [] l.value with_chunks) (λ u s. Step (on (states.with_branch (make.negate u) s)))) }
+    ensures assigned { (x : Rc (String Global) Global) (on : Going) → executed [] (executed'.Assign x) on (number 3) scene
+        ≡ Step (on (states.with_store (states.assign (string_bytes x.value) (number 3) scene.store) scene)) }
 {}
 
 /// What a state, or a value and a state, leads to, and the tree of a frame.
@@ -172,20 +194,26 @@ pub fn frames_that_wait()
     ensures impossible { going [] next'.Impossible scene ≡ Impossible scene }
     ensures exec { (q : _) (c : Rc Stmt' Global) (n : Next) → going [] (next'.Exec' c q n) scene ≡ members.exec [] (rules.outer [] 4) (stmt c.value) scene (going [] n) }
     ensures block { (q : _) (b : Rc Block' Global) (n : Next) → going [] (next'.Block' b q n) scene ≡ members.exec_all [] (rules.outer [] 4) (block b.value) scene (going [] n) }
-    ensures inner { (q : _) (b : Rc Block' Global) (n : Next) → going [] (next'.Inner' b 1 q n) scene ≡ members.exec_all [] (rules.outer [] 4) (block b.value) scene (λ s. going [] n (states.leave 1 s)) }
+    ensures inner { (q : _) (b : Rc Block' Global) (n : Next) → going [] (next'.Inner' b 1 q n) scene ≡ members.exec_all [] (rules.outer [] 4)
+        (block b.value) scene (λ s. going [] n (states.leave 1 s)) }
     ensures produce { (q : _) (a : Rc Assertion' Global) (x : Rc Production Global) (n : Next) → going [] (next'.Produce' a x q n) scene ≡
         rules.produce [] (rules.outer [] 4) (assertion a.value) (held_term x.value.scale) (optional_term x.value.snapshot) scene (going [] n) }
-    ensures unit { (q : _) (start : Rc SymHeap Global) (h : Hole) → going [] (next'.Unit' start q h) with_chunks ≡ Step (giving [] h unit (record with_chunks { heap = heap start.value })) }
-    ensures consume { (q : _) (a : Rc Assertion' Global) (t : Rc Term' Global) (h : Hole) → going [] (next'.Consume' a (record { pure = code'.Entry; permission = code'.Entry; builds = false }) t q h) with_chunks ≡
+    ensures unit { (q : _) (start : Rc SymHeap Global) (h : Hole) → going [] (next'.Unit' start q h) with_chunks
+        ≡ Step (giving [] h unit (record with_chunks { heap = heap start.value })) }
+    ensures consume { (q : _) (a : Rc Assertion' Global) (t : Rc Term' Global) (h : Hole)
+        → going [] (next'.Consume' a (record { pure = code'.Entry; permission = code'.Entry; builds = false }) t q h) with_chunks ≡
         rules.consume [] (rules.outer [] 4) (assertion a.value) (members.codes EntryCode EntryCode) (held_term t) with_chunks.heap with_chunks (giving [] h) }
     ensures consume_from { (q : _) (a : Rc Assertion' Global) (x : Rc Consumption Global) (h : Hole) → going [] (next'.ConsumeFrom' a x q h) with_chunks ≡
         rules.consume [] (rules.outer [] 4) (assertion a.value) (context x.value.codes) (held_term x.value.scale) (heap x.value.start.value) with_chunks (giving [] h) }
     ensures sides { (m : Rc Method' Global) → going [] (next'.Sides m) scene ≡ members.sides [] (rules.outer [] 4) (method m.value) scene }
     ensures put { (q : _) (l : Rc Location Global) (x : Rc Production Global) (n : Next) → going [] (next'.Put' l x false q n) scene ≡
         Step (going [] n (with_location [] (string_bytes l.value.field.value) (held_term l.value.receiver) (held_term l.value.amount) (optional_term x.value.snapshot) false scene)) }
-    ensures read { (q : _) (x : Rc Search Global) (h : Hole) → going [] (next'.ReadFrom' x 1 q h) scene ≡ finding x.value 1 scene (λ c. giving [] h c.chunk.value scene) (rules.never x.value.place (code x.value.code) scene) }
-    ensures read_over { (q : _) (f : Rc (String Global) Global) (r : Rc Term' Global) (h : Hole) → going [] (next'.ReadOver' f r q h) scene ≡ giving [] h (states.fresh sort.IntSort scene) (states.after_fresh scene) }
-    ensures take_over { (q : _) (l : Rc Location Global) (h : Hole) → going [] (next'.TakeOver' l q h) scene ≡ giving [] h (states.fresh sort.IntSort scene) (states.after_fresh scene) }
+    ensures read { (q : _) (x : Rc Search Global) (h : Hole) → going [] (next'.ReadFrom' x 1 q h) scene ≡ finding x.value 1 scene
+        (λ c. giving [] h c.chunk.value scene) (rules.never x.value.place (code x.value.code) scene) }
+    ensures read_over { (q : _) (f : Rc (String Global) Global) (r : Rc Term' Global) (h : Hole) → going [] (next'.ReadOver' f r q h) scene
+        ≡ giving [] h (states.fresh sort.IntSort scene) (states.after_fresh scene) }
+    ensures take_over { (q : _) (l : Rc Location Global) (h : Hole) → going [] (next'.TakeOver' l q h) scene ≡ giving [] h (states.fresh sort.IntSort scene)
+        (states.after_fresh scene) }
     ensures write_over { (q : _) (f : Rc (String Global) Global) (r t : Rc Term' Global) (n : Next) → going [] (next'.WriteOver' f r t q n) scene ≡ going [] n scene }
     ensures fresh { (q : _) (w : Taken) → going [] (next'.Fresh' sort'.Int q w) scene ≡ with_taken [] w (states.fresh sort.IntSort scene) false (states.after_fresh scene) }
     ensures evals { (q : _) (es : Rc Exprs' Global) (r : Row) → going [] (next'.Evals' es q r) scene ≡ rules.evals [] (rules.outer [] 4) (exprs es.value) scene (giving_all [] r) }
@@ -194,9 +222,12 @@ pub fn frames_that_wait()
     ensures taken { (q : _) (h : Hole) → with_taken [] (taken'.Value' q h) (int 0) true scene ≡ giving [] h (int 0) scene }
     ensures given { giving [] hole'.Finish (int 0) scene ≡ End }
     ensures produced { (q : _) (n : Next) → giving [] (hole'.Produced' (produced'.Fact None) q n) (bool 0) scene ≡ Step (going [] n scene) }
-    ensures produced_unit { (q : _) (t : Rc Term' Global) (n : Next) → giving [] (hole'.Produced' (produced'.Fact (Some t)) q n) (bool 0) scene ≡ Step (going [] n (states.with_fact (make.equals (held_term t) unit) scene)) }
+    ensures produced_unit { (q : _) (t : Rc Term' Global) (n : Next) → giving [] (hole'.Produced' (produced'.Fact (Some t)) q n) (bool 0) scene
+        ≡ Step (going [] n (states.with_fact (make.equals (held_term t) unit) scene)) }
     ensures operand { (q : _) (h : Hole) → giving [] (hole'.Operand' operand'.Negate q h) (bool 0) scene ≡ Step (giving [] h (denied (bool 0)) scene) }
-    ensures consumed { (q : _) (t : Rc Term' Global) (h : Hole) → giving [] (hole'.Consumed' (consumed'.With t (record { pure = code'.Assert; permission = code'.Permission; builds = false })) q h) unit scene ≡ Step (giving [] h (pair (held_term t) unit) scene) }
+    ensures consumed { (q : _) (t : Rc Term' Global) (h : Hole) → giving []
+        (hole'.Consumed' (consumed'.With t (record { pure = code'.Assert; permission = code'.Permission; builds = false })) q h) unit scene
+        ≡ Step (giving [] h (pair (held_term t) unit) scene) }
     ensures executed { (q : _) (n : Next) → giving [] (hole'.Executed' executed'.Exhaled q n) unit scene ≡ Step (going [] n scene) }
     ensures go { (n : Rc Next Global) → frame_tree [] (frame'.Go n) scene ≡ going [] n.value scene }
     ensures eval { (e : Rc Expr' Global) (h : Rc Hole Global) → frame_tree [] (frame'.Eval e h) scene ≡ rules.eval [] (rules.outer [] 4) (expr e.value) scene (giving [] h.value) }

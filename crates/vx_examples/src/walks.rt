@@ -93,7 +93,8 @@ pub fn asking()
     ensures quiet_never { rules.never (at 1 1) AssertCode quiet_scene ≡ End }
     ensures probe_truth { rules.probe truth (at 1 1) AssertCode scene two_asks End ≡ Step two_asks }
     ensures probe { rules.probe (bool 2) (at 1 1) AssertCode scene two_asks two_sides ≡ Probe (probes (at 1 1) AssertCode (bool 0 ∷ denied (bool 1) ∷ []) (bool 2)) two_asks two_sides }
-    ensures probe_impossible { rules.probe falsity (at 1 1) AssertCode scene two_asks two_sides ≡ Probe (probes (at 1 1) AssertCode (bool 0 ∷ denied (bool 1) ∷ []) falsity) (Impossible scene) two_sides }
+    ensures probe_impossible { rules.probe falsity (at 1 1) AssertCode scene two_asks two_sides
+        ≡ Probe (probes (at 1 1) AssertCode (bool 0 ∷ denied (bool 1) ∷ []) falsity) (Impossible scene) two_sides }
     ensures quiet_probe { rules.probe (bool 2) (at 1 1) AssertCode quiet_scene two_asks two_sides ≡ Step two_sides }
     ensures fork_known { rules.fork (bool 0) scene (λ s. two_asks) (λ s. two_sides) ≡ Step two_asks }
     ensures fork_denied { rules.fork (bool 1) scene (λ s. two_asks) (λ s. two_sides) ≡ Step two_sides }
@@ -119,7 +120,8 @@ pub fn heaps()
         field_chunk f (ref 0) all (int 10) ∷ field_chunk f (ref 1) all (int 11) ∷ field_chunk g (ref 0) all (int 12) ∷ cell_chunk (ref 0) half (snap 13) ∷ [] }
     ensures merged_facts { (chunks.put (field_chunk f (ref 0) half (int 14)) with_chunks).path ≡
         fact (differ (ref 0) null) ∷ fact (equal (int 10) (int 14)) ∷ fact (differ (ref 1) (ref 0)) ∷ fact (implied (equal (ref 0) (ref 1)) (equal (int 10) (int 11))) ∷ [] }
-    ensures merged_unbounded { (chunks.put (field_chunk f (ref 0) half (int 14)) (record with_chunks { bounded = false })).path ≡ fact (differ (ref 0) null) ∷ fact (equal (int 10) (int 14)) ∷ fact (implied (equal (ref 0) (ref 1)) (equal (int 10) (int 11))) ∷ [] }
+    ensures merged_unbounded { (chunks.put (field_chunk f (ref 0) half (int 14)) (record with_chunks { bounded = false })).path ≡ fact (differ (ref 0) null)
+        ∷ fact (equal (int 10) (int 14)) ∷ fact (implied (equal (ref 0) (ref 1)) (equal (int 10) (int 11))) ∷ [] }
     ensures added_heap { (chunks.put (field_chunk f (ref 2) half (int 14)) with_chunks).heap ≡
         field_chunk f (ref 0) half (int 10) ∷ field_chunk f (ref 1) all (int 11) ∷ field_chunk g (ref 0) all (int 12) ∷ cell_chunk (ref 0) half (snap 13)
         ∷ field_chunk f (ref 2) half (int 14) ∷ [] }
