@@ -18,7 +18,7 @@ use Rattle.vx_meaning.specs.Values.{◌>>=◌, IntValue, PermValue, operated}
 use Rattle.vx_meaning.specs.States.{State}
 use Rattle.vx_meaning.specs.Evaluate.{Applications, value}
 use Rattle.vx_types.specs.Typing.{Scope}
-use Rattle.vx_whole.specs.Premises.{IsConstantAmount, HasConstantAmounts}
+use Rattle.vx_types.specs.Premises.{IsConstantAmount, HasConstantAmounts}
 use Rattle.vx_settled.proofs.TypedExprs.{Sees}
 use Rattle.vx_settled.proofs.TypedClaims.{pure_value, impure}
 

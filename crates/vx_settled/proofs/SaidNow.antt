@@ -10,7 +10,7 @@ use Rattle.vx_ast.specs.Resolve.{Names, whole, expression, expressions, amount, 
 use Rattle.vx_ast.specs.Syntax.{Expr, Assertion, Pure, Instance, Implied, Chosen}
 use Rattle.vx_expressions.specs.Settings.{Setting}
 use Rattle.vx_expressions.specs.Typing as typing
-use Rattle.vx_whole.specs.Now.{IsOfNow, AreOfNow, SaysNow}
+use Rattle.vx_types.specs.Now.{IsOfNow, AreOfNow, SaysNow}
 
 operated : (at : Place) {op : BinaryOperator} {t u : ValueType} → typing.Operates op t u → (a b : Expr) → IsOfNow a → IsOfNow b → IsOfNow (binary_of at op a b)
 operated at typing.and a b h k = (h, k)

@@ -19,12 +19,12 @@ use Rattle.vx_expressions.specs.Settings.{Table, plainly, before_function, after
 use Rattle.vx_expressions.specs.Typing as typing
 use Rattle.vx_statements.specs.Statements.{AreNew}
 use Rattle.vx_typing.specs.Members as members
-use Rattle.vx_typing.specs.Members.{table_of, AreDeclared, AreTypedClauses, IsMeasure, AreTypedMembers, IsTypedKind}
+use Rattle.vx_typing.specs.Members.{table_of, AreDeclared, LeaveResult, AreTypedClauses, IsMeasure, AreTypedMembers, IsTypedKind}
 use Rattle.vx_types.specs.Typing as settled_typing
 use Rattle.vx_types.specs.Typing.{Scope, type_in, AreOnce, HaveNoPerm, HasType, AllTyped, AreTruths, IsTypedContent, IsTypedMeasure, IsTypedPredicate, IsTypedFunction, IsTypedMethod}
-use Rattle.vx_whole.specs.Now.{IsOfNow, AreOfNow, SaysNow, IsMeasuredNow, SpeaksOfNow}
-use Rattle.vx_whole.specs.Premises.{HasConstantAmounts}
-use Rattle.vx_settled.specs.WhenSettled.{LeavesResult, LeaveResults, TypedProgramWhenSettled}
+use Rattle.vx_types.specs.Now.{IsOfNow, AreOfNow, SaysNow, IsMeasuredNow, SpeaksOfNow}
+use Rattle.vx_types.specs.Premises.{HasConstantAmounts}
+use Rattle.vx_settled.specs.WhenSettled.{TypedProgramWhenSettled}
 use Rattle.vx_settled.proofs.TypedNames.{Knows, knows, same_refl, differs_back, Absent, absent, among_last}
 use Rattle.vx_settled.proofs.TypedExprs.{Sees, typed, all_typed}
 use Rattle.vx_settled.proofs.TypedClaims.{claim}
@@ -124,7 +124,7 @@ module _ (table : Table) (names : Names) (p : Program) (knows : Knows (named tab
   abbrev with_result : List written.Declaration → ValueType → Scope
   with_result ds of = parameters ds ++ record { name = result_name; of = of } ∷ []
 
-  after_sees : (ds : List written.Declaration) (of : ValueType) → is_among result_name (map (λ (d : written.Declaration). d.name.name) ds) ≡ false → Sees (after_function table (inputs ds) of) (with_result ds of) names p
+  after_sees : (ds : List written.Declaration) (of : ValueType) → LeaveResult ds → Sees (after_function table (inputs ds) of) (with_result ds of) names p
   after_sees ds of away = record {
     variables = λ x t h. longer x (parameters ds) (record { name = result_name; of = of } ∷ []) t (known ds x t h);
     outcome = λ t h. subst (λ u. type_in result_name (with_result ds of) ≡ Some u) (sym (same_type of t h)) (is_last names result_name of ds away);
@@ -143,7 +143,7 @@ module _ (table : Table) (names : Names) (p : Program) (knows : Knows (named tab
   required_amounts ds of (written.Ensures e ∷ cs) h = required_amounts ds of cs h.1
   required_amounts ds of (written.Decreases e ∷ cs) h = required_amounts ds of cs h.1
 
-  ensured : (ds : List written.Declaration) (of : ValueType) (away : is_among result_name (map (λ (d : written.Declaration). d.name.name) ds) ≡ false) (cs : List written.Clause) → AreTypedClauses table (inputs ds) of cs →
+  ensured : (ds : List written.Declaration) (of : ValueType) (away : LeaveResult ds) (cs : List written.Clause) → AreTypedClauses table (inputs ds) of cs →
       AreTruths p (with_result ds of) (map expression (written.ensures_of cs))
   ensured ds of away [] h = tt
   ensured ds of away (written.Requires e ∷ cs) h = ensured ds of away cs h.1
@@ -190,13 +190,12 @@ module _ (table : Table) (names : Names) (p : Program) (knows : Knows (named tab
   decreasing ds of (written.Ensures e ∷ cs) h = decreasing ds of cs h.1
   decreasing ds of (written.Decreases e ∷ cs) h = measured ds e h.0
 
-  function : (at : Place) (f : written.Function) → members.IsTypedFunction table f → is_among result_name (map (λ (d : written.Declaration). d.name.name) f.parameters) ≡ false →
-      (g : Function) → IsFunction g ≡ resolve.kind names at (written.IsFunction f) → IsTypedFunction p g
-  function at f h away g is = subst (IsTypedFunction p) (sym (same_function _ _ is)) record {
+  function : (at : Place) (f : written.Function) → members.IsTypedFunction table f → (g : Function) → IsFunction g ≡ resolve.kind names at (written.IsFunction f) → IsTypedFunction p g
+  function at f h g is = subst (IsTypedFunction p) (sym (same_function _ _ is)) record {
     names = inputs_once f.parameters h.parameters;
     parameters = no_perms names f.parameters [] h.parameters;
     requires = required f.parameters f.of f.clauses h.clauses;
-    ensures = ensured f.parameters f.of away f.clauses h.clauses;
+    ensures = ensured f.parameters f.of h.result f.clauses h.clauses;
     measure = decreasing f.parameters f.of f.clauses h.clauses;
     body = typed (plainly table (inputs f.parameters)) (parameters f.parameters) names p (plainly_sees f.parameters) h.body;
   }
@@ -264,22 +263,22 @@ module _ (table : Table) (names : Names) (p : Program) (knows : Knows (named tab
   TypedKind (IsFunction g) = IsTypedFunction p g × Each HasConstantAmounts g.requires × SpeaksOfNow g
   TypedKind (IsMethod m) = IsTypedMethod p m
 
-  kind : (at : Place) (k : written.Kind) → IsTypedKind table k → LeavesResult k → TypedKind (resolve.kind names at k)
-  kind at (written.IsField t) h away = tt
-  kind at (written.IsPredicate d) h away = (predicate at d h, content_amounts d.parameters d.body h.body, content_now d.parameters d.body h.body)
-  kind at (written.IsFunction f) h away = (function at f h away _ refl, required_amounts f.parameters f.of f.clauses h.clauses, function_now at f h _ refl)
-  kind at (written.IsMethod m) h away = method table names p knows (written.IsMethod m) at _ h refl
+  kind : (at : Place) (k : written.Kind) → IsTypedKind table k → TypedKind (resolve.kind names at k)
+  kind at (written.IsField t) h = tt
+  kind at (written.IsPredicate d) h = (predicate at d h, content_amounts d.parameters d.body h.body, content_now d.parameters d.body h.body)
+  kind at (written.IsFunction f) h = (function at f h _ refl, required_amounts f.parameters f.of f.clauses h.clauses, function_now at f h _ refl)
+  kind at (written.IsMethod m) h = method table names p knows (written.IsMethod m) at _ h refl
 
   same_kind : (a b : Kind) → Some a ≡ Some b → a ≡ b
   same_kind a b e = (cc)
 
-  named_typed : (ms : List written.Member) → AreTypedMembers table ms → LeaveResults ms → (x : Name) (k : Kind) → member_named (map (resolve.member names) ms) x ≡ Some k → TypedKind k
-  named_typed [] h away x k e = (cc)
-  named_typed (w ∷ ms) h away x k e = go (same_name x w.name.name) e (named_typed ms h.1 away.1 x k)
+  named_typed : (ms : List written.Member) → AreTypedMembers table ms → (x : Name) (k : Kind) → member_named (map (resolve.member names) ms) x ≡ Some k → TypedKind k
+  named_typed [] h x k e = (cc)
+  named_typed (w ∷ ms) h x k e = go (same_name x w.name.name) e (named_typed ms h.1 x k)
     where
       go : (b : Bool) → elim b as (λ c. Option Kind) [ true ↦ Some (resolve.kind names w.place w.kind) | false ↦ member_named (map (resolve.member names) ms) x ] ≡ Some k →
           (member_named (map (resolve.member names) ms) x ≡ Some k → TypedKind k) → TypedKind k
-      go true e next = subst TypedKind (same_kind _ k e) (kind w.place w.kind h.0 away.0)
+      go true e next = subst TypedKind (same_kind _ k e) (kind w.place w.kind h.0)
       go false e next = next e
 
 -- ---- each member is found by its name
@@ -331,9 +330,9 @@ method_found (Some (IsFunction g)) m e = (cc)
 method_found (Some (IsMethod c)) m e = (cc)
 
 pub typed_program_when_settled : TypedProgramWhenSettled
-typed_program_when_settled w h away =
+typed_program_when_settled w h =
     let p = resolve.program w in
-    let all : (x : Name) (k : Kind) → member_named p x ≡ Some k → TypedKind (table_of w) (names_of w) p (knows w h.names) k = named_typed (table_of w) (names_of w) p (knows w h.names) w h.members away in
+    let all : (x : Name) (k : Kind) → member_named p x ≡ Some k → TypedKind (table_of w) (names_of w) p (knows w h.names) k = named_typed (table_of w) (names_of w) p (knows w h.names) w h.members in
     record {
       names = found_by_name (names_of w) [] w h.names;
       predicates = λ x d e. (all x (IsPredicate d) (predicate_found (member_named p x) d e)).0;

@@ -1,16 +1,15 @@
 -- What is typed as it is written is typed when it is settled, member by member and, where it is executed, as a whole, and
 -- keeps its members apart.
-use Rattle.std.specs.Prelude.{◌≡◌, ◌≤◌, ℕ, false, List, [], ◌∷◌, Some, map, slice_get, ⊤}
-use Rattle.vx_ast.specs.Mentions.{is_among}
+use Rattle.std.specs.Prelude.{◌≡◌, ◌≤◌, ℕ, Some, slice_get}
 use Rattle.vx_ast.specs.Written as written
 use Rattle.vx_ast.specs.Resolve.{program}
-use Rattle.vx_ast.specs.Syntax.{Name, result_name, Program, Member, Kind, Method, IsMethod}
+use Rattle.vx_ast.specs.Syntax.{Name, Program, Member, Kind, Method, IsMethod}
 use Rattle.vx_typing.specs.Programs.{IsTyped}
 use Rattle.vx_types.specs.Typing.{IsTypedMethod}
 use Rattle.vx_rules.specs.Rules.{outer}
 use Rattle.vx_rules.specs.Members.{depth, tree_over, tree}
 use Rattle.vx_ast.specs.Apart.{KeepsApart}
-use Rattle.vx_whole.specs.Premises.{IsTypedProgram}
+use Rattle.vx_types.specs.Premises.{IsTypedProgram}
 use Rattle.vx_resolved.specs.Numbers.{number_named}
 
 -- this holds of the methods of a program
@@ -33,17 +32,6 @@ KeptApartWhenSettled = (p : written.Program) → IsTyped p → KeepsApart (progr
 abbrev pub DepthSufficesWhenSettled : Type 0
 DepthSufficesWhenSettled = (p : written.Program) (d : ℕ) → IsTyped p → depth (program p) ≤ d → (x : Name) (k : Kind) → tree_over (program p) (outer (program p) d) x k ≡ tree (program p) x k
 
--- no function's parameter has the name of its result; the word is no name in a text
-abbrev pub LeavesResult : written.Kind → Type 0
-LeavesResult (written.IsFunction f) = is_among result_name (map (λ d. d.name.name) f.parameters) ≡ false
-LeavesResult (written.IsField t) = ⊤
-LeavesResult (written.IsPredicate d) = ⊤
-LeavesResult (written.IsMethod m) = ⊤
-
-abbrev pub LeaveResults : List written.Member → Type 0
-LeaveResults [] = ⊤
-LeaveResults (m ∷ ms) = LeavesResult m.kind × LeaveResults ms
-
 -- for the whole language
 abbrev pub TypedProgramWhenSettled : Type 0
-TypedProgramWhenSettled = (p : written.Program) → IsTyped p → LeaveResults p → IsTypedProgram (program p)
+TypedProgramWhenSettled = (p : written.Program) → IsTyped p → IsTypedProgram (program p)

@@ -1,9 +1,11 @@
 -- A member is typed exactly where its first fault is none.
-use Rattle.std.proofs.Common.{◌≡◌, ◌⊎◌, inl, inr, ◌++◌, List, [], ◌∷◌, Option, Some, None, true, map, refl, ap, ◌∙◌, subst, Ok}
+use Rattle.std.proofs.Common.{◌≡◌, ◌⊎◌, inl, inr, ◌++◌, not, List, [], ◌∷◌, Option, Some, None, true, map, refl, ap, ◌∙◌, subst, Ok}
+use Rattle.std.proofs.lemmas.Bool.{not-true, or_from, or_parts}
 use Rattle.std.specs.Prelude.{⊤}
 use Rattle.vx_ast.specs.declared.Place.{Place}
 use Rattle.vx_ast.specs.declared.ValueType.{ValueType}
 use Rattle.vx_ast.specs.declared.ValueType.TheVariants as type
+use Rattle.vx_ast.specs.Syntax.{same_name, result_name}
 use Rattle.vx_ast.specs.Written.{Name, Placed, Expr, Call, Exprs, Block, Declaration, Clause, Requires, Ensures, Decreases, Predicate, Function, Method, Kind, IsField, IsPredicate, IsFunction, IsMethod, Member}
 use Rattle.vx_statements.specs.declared.names.Role.{Role}
 use Rattle.vx_statements.specs.declared.names.Role.TheVariants.{Input, Parameter, Local}
@@ -12,12 +14,12 @@ use Rattle.vx_expressions.specs.Scopes.{Scope, named}
 use Rattle.vx_statements.specs.Roles.{takes, with_variable, with_variables}
 use Rattle.vx_expressions.specs.Settings.{Table, Setting, plainly, within_method, before_function, after_function, within_measure, within_predicate}
 use Rattle.vx_expressions.specs.Typing.{HasType, IsPermission}
-use Rattle.vx_expressions.specs.Faults.{◌>>=◌, Mismatch, OfType, unless, expect, check, Claim, Value, Permission, call}
+use Rattle.vx_expressions.specs.Faults.{◌>>=◌, Twice, Mismatch, OfType, unless, expect, check, Claim, Value, Permission, call}
 use Rattle.vx_statements.specs.Statements.{AreNew}
 use Rattle.vx_statements.specs.StatementFaults.{new_name, new_variable}
-use Rattle.vx_typing.specs.Members.{AreDeclared, IsMeasure, IsTypedBody, IsTypedClause, AreTypedClauses, IsTypedContract, AreTypedContracts, IsTypedBlockOf, IsTypedPredicate, IsTypedFunction, IsTypedMethod, IsTypedKind, AreTypedMembers}
+use Rattle.vx_typing.specs.Members.{AreDeclared, LeaveResult, IsMeasure, IsTypedBody, IsTypedClause, AreTypedClauses, IsTypedContract, AreTypedContracts, IsTypedBlockOf, IsTypedPredicate, IsTypedFunction, IsTypedMethod, IsTypedKind, AreTypedMembers}
 use Rattle.vx_typing.specs.MemberFaults as first
-use Rattle.vx_typing.specs.MemberFaults.{declaration, declarations, typed_as, measured, measure, new_names}
+use Rattle.vx_typing.specs.MemberFaults.{declaration, declarations, leaves_result, leave_result, typed_as, measured, measure, new_names}
 use Rattle.vx_expressions.proofs.Passed.{bound, tested, expected, as_expected}
 use Rattle.vx_expressions.proofs.AgreesTypes.{to_type, from_type}
 use Rattle.vx_expressions.proofs.AgreesClaims.{Claimed, to_claim, to_assertion, value_claim, from_permission, passes}
@@ -39,6 +41,20 @@ declared_from : (role : Role) (scope : Scope) (ds : List Declaration) → AreDec
 declared_from role scope [] h = refl
 declared_from role scope (d ∷ ds) h =
     ap (λ r. r >>= λ u. declarations role (with_variable role d scope) ds) (one_from role scope d h.0 h.1) ∙ declared_from role (with_variable role d scope) ds h.2
+
+-- ---- the name of the result
+result_to : (ds : List Declaration) (u : ⊤) → leave_result ds ≡ Ok u → LeaveResult ds
+result_to [] u h = refl
+result_to (d ∷ ds) u h =
+    let y = bound (leaves_result d.name) _ u h in
+    let is_result = same_name result_name d.name.name in
+    or_from is_result _ (not-true is_result (tested (not is_result) _ y.0 y.1)) (result_to ds u y.2)
+
+result_from : (ds : List Declaration) → LeaveResult ds → leave_result ds ≡ Ok tt
+result_from [] h = refl
+result_from (d ∷ ds) h =
+    let away = or_parts (same_name result_name d.name.name) _ h in
+    ap (λ b. unless (not b) (Twice d.name.place d.name.name) >>= λ u. leave_result ds) away.0 ∙ result_from ds away.1
 
 -- ---- values and measures
 as_to : (s : Setting) (t : ValueType) (e : Expr) (u : ⊤) → typed_as s t e ≡ Ok u → HasType s e t
@@ -132,9 +148,11 @@ module _ (table : Table) where
   function_to f u h =
       let scope = with_variables Input f.parameters [] in
       let y = bound (declarations Input [] f.parameters) _ u h in
-      let z = bound (first.clauses table scope f.of f.clauses) _ u y.2 in
+      let x = bound (leave_result f.parameters) _ u y.2 in
+      let z = bound (first.clauses table scope f.of f.clauses) _ u x.2 in
       record {
         parameters = declared_to Input [] f.parameters y.0 y.1;
+        result = result_to f.parameters x.0 x.1;
         clauses = clauses_to scope f.of f.clauses z.0 z.1;
         body = as_to (plainly table scope) f.of f.body u z.2;
       }
@@ -142,7 +160,8 @@ module _ (table : Table) where
   function_from : (f : Function) → IsTypedFunction table f → first.function table f ≡ Ok tt
   function_from f h =
       let scope = with_variables Input f.parameters [] in
-      ap (λ r. r >>= λ u. first.clauses table scope f.of f.clauses >>= λ u. typed_as (plainly table scope) f.of f.body) (declared_from Input [] f.parameters h.parameters)
+      ap (λ r. r >>= λ u. leave_result f.parameters >>= λ u. first.clauses table scope f.of f.clauses >>= λ u. typed_as (plainly table scope) f.of f.body) (declared_from Input [] f.parameters h.parameters)
+      ∙ ap (λ r. r >>= λ u. first.clauses table scope f.of f.clauses >>= λ u. typed_as (plainly table scope) f.of f.body) (result_from f.parameters h.result)
       ∙ ap (λ r. r >>= λ u. typed_as (plainly table scope) f.of f.body) (clauses_from scope f.of f.clauses h.clauses)
       ∙ as_from (plainly table scope) f.of f.body h.body
 

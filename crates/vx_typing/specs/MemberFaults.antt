@@ -1,15 +1,17 @@
--- The first fault of a member: its parameters and returns, its clauses in text order, and its body.
-use Rattle.std.specs.Prelude.{◌++◌, List, [], ◌∷◌, Option, Some, None, Ok, ⊤}
+-- The first fault of a member: its parameters and returns, a parameter that has the name of a function's result, its clauses
+-- in text order, and its body.
+use Rattle.std.specs.Prelude.{◌++◌, not, List, [], ◌∷◌, Option, Some, None, Ok, ⊤}
 use Rattle.vx_ast.specs.declared.ValueType.{ValueType}
 use Rattle.vx_ast.specs.declared.ValueType.TheVariants as type
-use Rattle.vx_ast.specs.Written.{Name, Expr, Call, Block, Declaration, Clause, Requires, Ensures, Decreases, Predicate, Function, Method, Kind, IsField, IsPredicate, IsFunction, IsMethod, Member}
+use Rattle.vx_ast.specs.Syntax.{same_name, result_name}
+use Rattle.vx_ast.specs.Written.{Name, Placed, Expr, Call, Block, Declaration, Clause, Requires, Ensures, Decreases, Predicate, Function, Method, Kind, IsField, IsPredicate, IsFunction, IsMethod, Member}
 use Rattle.vx_statements.specs.declared.names.Role.{Role}
 use Rattle.vx_statements.specs.declared.names.Role.TheVariants.{Input, Parameter, Local}
 use Rattle.vx_expressions.specs.Places.{place_of}
 use Rattle.vx_expressions.specs.Scopes.{Scope}
 use Rattle.vx_statements.specs.Roles.{takes, with_variable, with_variables}
 use Rattle.vx_expressions.specs.Settings.{Table, Setting, plainly, within_method, before_function, after_function, within_measure, within_predicate}
-use Rattle.vx_expressions.specs.Faults.{Checked, ◌>>=◌, Mismatch, OfType, unless, expect, check, Claim, Value, Permission, call, assertion}
+use Rattle.vx_expressions.specs.Faults.{Checked, ◌>>=◌, Twice, Mismatch, OfType, unless, expect, check, Claim, Value, Permission, call, assertion}
 use Rattle.vx_statements.specs.StatementFaults.{new_name, new_variable, truth, block}
 
 abbrev pub declaration : Role → Scope → Declaration → Checked ⊤
@@ -18,6 +20,14 @@ declaration role scope d = new_variable scope d.name >>= λ _. unless (takes rol
 abbrev pub declarations : Role → Scope → List Declaration → Checked ⊤
 declarations role scope [] = Ok tt
 declarations role scope (d ∷ ds) = declaration role scope d >>= λ _. declarations role (with_variable role d scope) ds
+
+-- a function declares its result: a parameter of that name declares it twice
+abbrev pub leaves_result : Placed → Checked ⊤
+leaves_result x = unless (not (same_name result_name x.name)) (Twice x.place x.name)
+
+abbrev pub leave_result : List Declaration → Checked ⊤
+leave_result [] = Ok tt
+leave_result (d ∷ ds) = leaves_result d.name >>= λ _. leave_result ds
 
 abbrev pub typed_as : Setting → ValueType → Expr → Checked ⊤
 typed_as s t e = check s e >>= λ u. expect (place_of e) t u
@@ -64,7 +74,7 @@ module _ (table : Table) where
 
   abbrev pub function : Function → Checked ⊤
   function f =
-      declarations Input [] f.parameters >>= λ _. clauses (with_variables Input f.parameters []) f.of f.clauses >>= λ _.
+      declarations Input [] f.parameters >>= λ _. leave_result f.parameters >>= λ _. clauses (with_variables Input f.parameters []) f.of f.clauses >>= λ _.
       typed_as (plainly table (with_variables Input f.parameters [])) f.of f.body
 
   -- with the parameters known, and with the returns too

@@ -1,7 +1,9 @@
 -- Which members are typed, by their structure.
-use Rattle.std.specs.Prelude.{◌≡◌, ◌⊎◌, true, List, [], ◌∷◌, Option, Some, None, map, is_some, ⊤}
+use Rattle.std.specs.Prelude.{◌≡◌, ◌⊎◌, true, false, List, [], ◌∷◌, Option, Some, None, map, is_some, ⊤}
 use Rattle.vx_ast.specs.declared.ValueType.{ValueType}
 use Rattle.vx_ast.specs.declared.ValueType.TheVariants as type
+use Rattle.vx_ast.specs.Mentions.{is_among}
+use Rattle.vx_ast.specs.Syntax.{result_name}
 use Rattle.vx_ast.specs.Written as written
 use Rattle.vx_ast.specs.Written.{Expr, Call, Block, Declaration, Clause, Requires, Ensures, Decreases, Predicate, Function, Method, Kind, Member, Program}
 use Rattle.vx_statements.specs.declared.names.Role.{Role}
@@ -29,6 +31,10 @@ table_of p = map (λ m. (m.name.name, signature_of m.kind)) p
 abbrev pub AreDeclared : Role → Scope → List Declaration → Type 0
 AreDeclared role scope [] = ⊤
 AreDeclared role scope (d ∷ ds) = (named scope d.name.name ≡ None) × (takes role d.of ≡ true) × AreDeclared role (with_variable role d scope) ds
+
+-- of a function's parameters none has the name of its result
+abbrev pub LeaveResult : List Declaration → Type 0
+LeaveResult ds = is_among result_name (map (λ d. d.name.name) ds) ≡ false
 
 -- a measure: an Int, or an instance `P(es)`
 abbrev pub IsMeasure : Setting → Expr → Type 0
@@ -69,6 +75,7 @@ module _ (table : Table) where
 
   pub record IsTypedFunction (f : Function) : Type 0 where
     pub parameters : AreDeclared Input [] f.parameters
+    pub result : LeaveResult f.parameters
     pub clauses : AreTypedClauses (with_variables Input f.parameters []) f.of f.clauses
     pub body : HasType (plainly table (with_variables Input f.parameters [])) f.body f.of
 

@@ -4,6 +4,7 @@ use Rattle.vx_ast.specs.declared.ValueType.{ValueType}
 use Rattle.vx_ast.specs.declared.ValueType.TheVariants.{Int, Ref, Perm}
 use Rattle.vx_ast.specs.declared.ValueType.TheVariants as type
 use Rattle.vx_ast.specs.declared.BinaryOperator.TheVariants as binary
+use Rattle.vx_ast.specs.Syntax.{result_name}
 use Rattle.vx_ast.specs.Written.{Name, placed, Expr, NoMore, More, All, Part, Number, Truth, Null, Nothing, Result, Variable, Call, Read, Binary, Choice, Old, Access, Unfolding, Value, New, Declaration, Declare, Assign, Write, Invoke, Inhale, Exhale, Assert, Assume, Fold, Unfold, If, While, NoElse, Block, Done, Then, Clause, Requires, Ensures, Decreases, IsField, IsPredicate, IsFunction, IsMethod, Member, Program}
 use Rattle.vx_expressions.specs.Faults.{Checked, OfType, Unknown, Twice, Mismatch, Impure, Arity, NoMeasure, MixedMeasures, AmountNotConstant, NotHere, NotAssignable, OldHere, ResultHere, UnfoldAbstract}
 use Rattle.vx_expressions.specs.Examples.{at, name}
@@ -11,6 +12,10 @@ use Rattle.vx_expressions.specs.Examples.{at, name}
 -- a name of one letter, and a type behind its colon and a blank
 abbrev decl : ℕ → Name → ValueType → Declaration
 decl c x t = record { name = placed (at c) x; of = t; type_at = at (c + 3) }
+
+-- an Int by the name of a result, which no text spells
+abbrev outcome : ℕ → Declaration
+outcome c = record { name = placed (at c) result_name; of = Int; type_at = at (c + 8) }
 
 -- members with their columns and those of their names
 
@@ -35,6 +40,14 @@ names =
     ∷ ((field 1 7 (codes "v") Int ∷ field 14 20 (codes "v") Int ∷ []), Err (Twice (at 20) (codes "v")))
     -- method m(x: Int) returns (x: Int)
     ∷ ((method 1 8 (codes "m") ((decl 10 (codes "x") Int) ∷ []) ((decl 27 (codes "x") Int) ∷ []) [] None ∷ []), Err (Twice (at 27) (codes "x")))
+    -- function f(result: Int): Int { 1 }
+    ∷ ((function 1 10 (codes "f") (outcome 12 ∷ []) Int [] (Number (at 32) 1) ∷ []), Err (Twice (at 12) result_name))
+    -- function f(n: Int, result: Int): Int requires z { 1 }: it comes before the clauses
+    ∷ ((function 1 10 (codes "f") ((decl 12 (codes "n") Int) ∷ outcome 20 ∷ []) Int (Requires (Variable (at 47) (codes "z")) ∷ []) (Number (at 51) 1) ∷ []), Err (Twice (at 20) result_name))
+    -- function f(result: Int, n: Int, n: Int): Int { 1 }: and behind the parameters
+    ∷ ((function 1 10 (codes "f") (outcome 12 ∷ (decl 25 (codes "n") Int) ∷ (decl 33 (codes "n") Int) ∷ []) Int [] (Number (at 48) 1) ∷ []), Err (Twice (at 33) (codes "n")))
+    -- method m(result: Int): a method has no result
+    ∷ ((method 1 8 (codes "m") (outcome 10 ∷ []) [] [] None ∷ []), Ok tt)
     -- method m(x: Int) { var x: Int }
     ∷ ((method 1 8 (codes "m") ((decl 10 (codes "x") Int) ∷ []) [] [] (Some (Then (Declare (at 20) (decl 24 (codes "x") Int) None) Done)) ∷ []), Err (Twice (at 24) (codes "x")))
     -- method m() { if (true) { var x: Int } var x: Int }: after its block a name may be declared again

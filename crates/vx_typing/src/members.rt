@@ -13,7 +13,7 @@ ghost use Rattle.vx_expressions.specs.Gives.{Gives};
 ghost use Rattle.vx_expressions.specs.Views as views;
 ghost use Rattle.vx_expressions.specs.Views.{setting, table, known, claim_of, names_in};
 
-use crate::parameters::declare_all;
+use crate::parameters::{declare_all, leave_result};
 use indexmap::IndexMap;
 use std::alloc::Global;
 use std::rc::Rc;
@@ -250,6 +250,7 @@ fn clauses_and_value(
     f: &Function,
 ) -> Result<(), TypeFault>
     requires typed { first.declarations Input [] (map written_declaration f.now.parameters.items) ≡ Ok tt }
+    requires apart { first.leave_result (map written_declaration f.now.parameters.items) ≡ Ok tt }
     requires known { known variables.now.entries ≡ with_variables Input (map written_declaration f.now.parameters.items) [] }
     ensures { Gives (λ x. tt) result (first.kind (table members.now.entries) (written_kind (MemberKind.Function f.now))) }
 {
@@ -266,6 +267,7 @@ fn function(alloc: Global, members: &Members, f: &Function) -> Result<(), TypeFa
     ensures { Gives (λ x. tt) result (first.kind (table members.now.entries) (written_kind (MemberKind.Function f.now))) }
 {
     let variables = parameters(alloc, Role::Input, &f.parameters)?;
+    leave_result(alloc, &f.parameters)?;
     clauses_and_value(alloc, members, &variables, f)
 }
 

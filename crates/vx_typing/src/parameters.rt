@@ -1,7 +1,8 @@
 //! Parameters and returns that are declared, of types that their roles allow.
 
 ghost use Rattle.std.specs.Prelude.{◌≡◌, OnOk, map};
-ghost use Rattle.vx_ast.specs.Written.{written_declaration};
+ghost use Rattle.vx_ast.specs.Syntax.{same_name, result_name};
+ghost use Rattle.vx_ast.specs.Written.{name_of, written_declaration};
 ghost use Rattle.vx_expressions.specs.Gives.{Gives};
 ghost use Rattle.vx_expressions.specs.Views.{known};
 ghost use Rattle.vx_typing.specs.MemberFaults as members;
@@ -9,9 +10,9 @@ ghost use Rattle.vx_statements.specs.Roles as scopes;
 ghost use Rattle.vx_statements.specs.Roles.{with_variable, with_variables};
 
 use std::alloc::Global;
-use vx_ast::{Declaration, ValueType};
+use vx_ast::{Declaration, Name, ValueType};
 use vx_expressions::{Expected, TypeFault, Variables};
-use vx_statements::{Role, declare};
+use vx_statements::{Role, declare, twice};
 
 // Whether a variable of this role can have this type.
 fn takes(role: Role, t: ValueType) -> bool
@@ -56,6 +57,32 @@ pub fn declare_all<'a>(
 {
     for declared in all {
         declare_one(alloc, variables, role, declared)?;
+    }
+    Ok(())
+}
+
+fn is_result(name: &str) -> bool
+    ensures { result ≡ same_name result_name name.now }
+{
+    name == "result"
+}
+
+// The name of a parameter is not that of the result.
+fn leaves_result(alloc: Global, name: &Name) -> Result<(), TypeFault>
+    ensures { Gives (λ x. tt) result (members.leaves_result (name_of name.now)) }
+{
+    if is_result(&name.text) {
+        return Err(twice(alloc, name));
+    }
+    Ok(())
+}
+
+/// No parameter of a function has the name of its result.
+pub fn leave_result(alloc: Global, all: &[Declaration]) -> Result<(), TypeFault>
+    ensures { Gives (λ x. tt) result (members.leave_result (map written_declaration all.now)) }
+{
+    for declared in all {
+        leaves_result(alloc, &declared.name)?;
     }
     Ok(())
 }
