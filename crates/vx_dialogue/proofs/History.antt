@@ -9,6 +9,8 @@ use Rattle.vx_sexp.specs.declared.token.Token.{Token}
 use Rattle.vx_smt_meaning.specs.Commands.{Command, CheckSat, Declared}
 use Rattle.vx_smt_meaning.specs.Dialogues.{Answers, Check}
 use Rattle.vx_smt_text.specs.Text.{command_text, commands_text}
+use Rattle.vx_smt_text.specs.Small.{IsSmallCommand}
+use Rattle.vx_terms.specs.Interpretations.{Each}
 use Rattle.vx_dialogue.specs.declared.dialogue.Dialogue.{Dialogue}
 use Rattle.vx_dialogue.specs.declared.talk.Talk.{Talk}
 use Rattle.vx_dialogue.specs.declared.talk.Talk.TheVariants as talk
@@ -23,7 +25,7 @@ use Rattle.vx_dialogue.specs.Pace.{KeepsPace}
 use Rattle.vx_dialogue.specs.Scripts.{Outside, ScopedTurn, said_of, scope_from, script}
 use Rattle.vx_dialogue.proofs.Joined.{append_none, short_longer, sent_by_gets}
 use Rattle.vx_dialogue.proofs.Told.{some_same}
-use Rattle.vx_dialogue.proofs.Lists.{length_more, text_append, text_more}
+use Rattle.vx_dialogue.proofs.Lists.{length_more, text_append, text_more, small_join}
 use Rattle.vx_dialogue.proofs.Pace.{pace_longer, pace_begun, pace_got}
 use Rattle.vx_dialogue.proofs.Explained.{by_link}
 use Rattle.vx_dialogue.proofs.Held.{none_plain, held_longer, held_part, held_unanswered, unanswered_among, unanswered_check}
@@ -164,16 +166,16 @@ module _ {L : Type 0} (dialogue : L → List Piece) (d : Dialogue L) (commands :
 
   -- Some commands were to be sent behind the answered ones, and a beginning of them is; then pieces are got.
   sends_tells : (g : Gathers dialogue d commands checks) (between new : List Piece) (batch : List ℕ) (script waiting : List Command) → script ≡ g.answered ++ waiting → batch ≡ commands_text waiting
-      → length waiting ≤ 256 → SendsOn (dialogue d.link) between → GetsOn between new → KeepsPace script (dialogue d.link)
+      → length waiting ≤ 256 → Each IsSmallCommand script → SendsOn (dialogue d.link) between → GetsOn between new → KeepsPace script (dialogue d.link)
       → (rest : List ℕ) → sent between ++ rest ≡ sent (dialogue d.link) ++ batch → got between ≡ got (dialogue d.link)
       → ((begun later : List ℕ) → begun ++ rest ≡ commands_text waiting → HoldsNoAnswer waiting begun later) → Tells true script new checks
-  sends_tells g between new batch script waiting all batch_is few sends gets pace rest begun got_on holds =
+  sends_tells g between new batch script waiting all batch_is few small sends gets pace rest begun got_on holds =
       let old = dialogue d.link in
       let added : sent between ≡ sent old ++ sent sends.0 = ap sent sends.1 ∙ sent-append old sends.0 in
       let left : sent sends.0 ++ rest ≡ batch =
       append_cancel_left (sent old) (sent sends.0 ++ rest) batch (sym (append_assoc (sent old) (sent sends.0) rest) ∙ (ap (λ x. x ++ rest) (sym added) ∙ begun)) in
       let later : got new ≡ got old ++ got gets.0 = ap got gets.1 ∙ (got-append between gets.0 ∙ ap (λ x. x ++ got gets.0) got_on) in
-      let kept = pace_begun old between batch rest script g.answered waiting g.items d.unread.items all sends begun g.sent_is batch_is few g.got_is g.lawful pace in
+      let kept = pace_begun old between batch rest script g.answered waiting g.items d.unread.items all sends begun g.sent_is batch_is few small g.got_is g.lawful pace in
       record {
         answered = g.answered;
         behind = waiting;
@@ -196,7 +198,7 @@ module _ {L : Type 0} (dialogue : L → List Piece) (d : Dialogue L) (commands :
   pub batch_tells : (between new : List Piece) → SendsOn (dialogue d.link) between → GetsOn between new → ((rest : List ℕ) × (sent between ++ rest ≡ sent (dialogue d.link) ++ d.batch.items)) → got between ≡ got (dialogue d.link)
       → Gathers dialogue d commands checks → Tells true commands new checks
   batch_tells between new sends gets begun got_on g =
-      sends_tells g between new d.batch.items commands g.gathered g.all g.batch_is g.few sends gets g.pace begun.0 begun.1 got_on (λ front later _. none_plain g.gathered front later g.plain)
+      sends_tells g between new d.batch.items commands g.gathered g.all g.batch_is g.few g.small sends gets g.pace begun.0 begun.1 got_on (λ front later _. none_plain g.gathered front later g.plain)
 
   -- and a check-sat behind it, not whole
   pub check_tells : (new : List Piece) → SendsOn (dialogue d.link) new → d.count < 256
@@ -208,7 +210,8 @@ module _ {L : Type 0} (dialogue : L → List Piece) (d : Dialogue L) (commands :
       let some : 0 < length begun.0 = omega arith in
       sends_tells g new new (d.batch.items ++ command_text CheckSat) (commands ++ CheckSat ∷ []) (g.gathered ++ CheckSat ∷ [])
       (ap (λ x. x ++ CheckSat ∷ []) g.all ∙ append_assoc g.answered g.gathered (CheckSat ∷ []))
-      (ap (λ x. x ++ command_text CheckSat) g.batch_is ∙ sym (text_more g.gathered CheckSat)) (omega (arith, length_more g.gathered CheckSat, g.count_is)) sends (gets_none new)
+      (ap (λ x. x ++ command_text CheckSat) g.batch_is ∙ sym (text_more g.gathered CheckSat)) (omega (arith, length_more g.gathered CheckSat, g.count_is))
+      (small_join commands (CheckSat ∷ []) g.small (tt, tt)) sends (gets_none new)
       (pace_longer commands (CheckSat ∷ []) (dialogue d.link) g.pace) begun.0 begun.1 got_on (λ front later all. held_part g.gathered front begun.0 later g.plain some all)
 
 pub standing_tells : {L : Type 0} (dialogue : L → List Piece) (certify : Bool) (functions : List Declared) (turns : List ScopedTurn) (d : Dialogue L) (checks : List Check)

@@ -6,6 +6,8 @@ use Rattle.vx_sexp.specs.declared.token.Token.{Token}
 use Rattle.vx_smt_meaning.specs.Commands.{Command, SetOption, SetLogic, DeclareSort, DeclareFun, Assert, Push, Pop, CheckSat, GetProof, Exit, Level, stack_after, stack_from}
 use Rattle.vx_smt_meaning.specs.Dialogues.{is_plain, ArePlain, is_lawful_to, Answers, checks_in, checks_told}
 use Rattle.vx_smt_text.specs.Text.{command_text, commands_text}
+use Rattle.vx_smt_text.specs.Small.{IsSmallCommand}
+use Rattle.vx_terms.specs.Interpretations.{Each}
 use Rattle.vx_dialogue.specs.declared.item.Wanted.TheVariants as wanted
 use Rattle.vx_dialogue.specs.Items.{is_lawful}
 use Rattle.vx_dialogue.specs.Hears.{all_lawful}
@@ -34,6 +36,10 @@ stack_append levels (c ∷ xs) ys = stack_append (stack_after c levels) xs ys
 pub plain_join : (xs ys : List Command) → ArePlain xs → ArePlain ys → ArePlain (xs ++ ys)
 plain_join [] ys e f = f
 plain_join (x ∷ xs) ys e f = (e.0, plain_join xs ys e.1 f)
+
+pub small_join : (xs ys : List Command) → Each IsSmallCommand xs → Each IsSmallCommand ys → Each IsSmallCommand (xs ++ ys)
+small_join [] ys e f = f
+small_join (x ∷ xs) ys e f = (e.0, small_join xs ys e.1 f)
 
 no_check : (c : Command) (levels : List Level) (item : List Token) → is_plain c ≡ true → checks_in c levels item ≡ []
 no_check (SetOption x b) levels item e = refl

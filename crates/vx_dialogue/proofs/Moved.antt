@@ -18,6 +18,7 @@ gathers_same dialogue d e link batch count unread commands checks g = record {
   count_is = count ∙ g.count_is;
   few = g.few;
   pace = rw link g.pace;
+  small = g.small;
   plain = g.plain;
   got_is = rw (link, unread) g.got_is;
   lawful = g.lawful;

@@ -9,6 +9,8 @@ use Rattle.vx_sexp.specs.declared.token.Token.{Token}
 use Rattle.vx_smt_meaning.specs.Commands.{Command}
 use Rattle.vx_smt_meaning.specs.Dialogues.{Answers}
 use Rattle.vx_smt_text.specs.Text.{commands_text}
+use Rattle.vx_smt_text.specs.Small.{IsSmallCommand}
+use Rattle.vx_terms.specs.Interpretations.{Each}
 use Rattle.vx_dialogue.specs.Items.{ShortItems}
 use Rattle.vx_dialogue.specs.Pace.{FewWait, KeepsPace}
 use Rattle.vx_dialogue.proofs.Joined.{append_none, short_longer, none_sent}
@@ -59,6 +61,7 @@ pace_none script before after e = at_none before e
       sent_is = refl;
       begun_is = refl;
       few = omega arith;
+      small = tt;
       got_is = refl;
       lawful = tt;
     }
@@ -80,6 +83,7 @@ pace_longer script more pieces pace before after e =
       sent_is = few.sent_is;
       begun_is = few.begun_is;
       few = few.few;
+      small = few.small;
       got_is = few.got_is;
       lawful = few.lawful;
     }
@@ -87,8 +91,8 @@ pace_longer script more pieces pace before after e =
 -- Where all that was sent has its replies, a batch of 256 commands at most is sent, or a beginning of it.
 pub pace_begun : (old new : List Piece) (batch left : List ℕ) (script answered waiting : List Command) (items : List (List Token)) (rest : List ℕ) → script ≡ answered ++ waiting
     → SendsOn old new → sent new ++ left ≡ sent old ++ batch → sent old ≡ commands_text answered → batch ≡ commands_text waiting → length waiting ≤ 256
-    → ShortItems (got old) items rest → Answers answered items → KeepsPace script old → KeepsPace script new
-pace_begun old new batch left script answered waiting items rest all more sent_on sent_is batch_is few heard lawful pace before after e =
+    → Each IsSmallCommand script → ShortItems (got old) items rest → Answers answered items → KeepsPace script old → KeepsPace script new
+pace_begun old new batch left script answered waiting items rest all more sent_on sent_is batch_is few small heard lawful pace before after e =
     by_front (fronts old more.0 before after (sym more.1 ∙ e))
   where
     added : sent more.0 ++ left ≡ batch
@@ -112,6 +116,7 @@ pace_begun old new batch left script answered waiting items rest all more sent_o
           sent_is = ap sent f.1 ∙ (sent-append old f.0 ∙ ap (λ x. x ++ sent f.0) sent_is);
           begun_is = sym (append_assoc (sent f.0) (sent after) left) ∙ (ap (λ x. x ++ left) (sym (sent-append f.0 after) ∙ ap sent (sym f.2)) ∙ (added ∙ batch_is));
           few = few;
+          small = subst (Each IsSmallCommand) all small;
           got_is = subst (λ x. ShortItems x items rest) (sym same) heard;
           lawful = lawful;
         }
@@ -119,7 +124,7 @@ pace_begun old new batch left script answered waiting items rest all more sent_o
 -- and the whole batch
 pub pace_sent : (old new : List Piece) (batch : List ℕ) (script answered waiting : List Command) (items : List (List Token)) (rest : List ℕ) → script ≡ answered ++ waiting
     → SendsOn old new → sent new ≡ sent old ++ batch → sent old ≡ commands_text answered → batch ≡ commands_text waiting → length waiting ≤ 256
-    → ShortItems (got old) items rest → Answers answered items → KeepsPace script old → KeepsPace script new
+    → Each IsSmallCommand script → ShortItems (got old) items rest → Answers answered items → KeepsPace script old → KeepsPace script new
 pace_sent old new batch script answered waiting items rest all more sent_on =
     pace_begun old new batch [] script answered waiting items rest all more (append_none (sent new) ∙ sent_on)
 
@@ -145,6 +150,7 @@ pace_got script old new more pace before after e = by_front (fronts old more.0 b
           sent_is = same ∙ few.sent_is;
           begun_is = few.begun_is;
           few = few.few;
+          small = few.small;
           got_is = subst (λ x. ShortItems x few.items (few.rest ++ got f.0)) (sym (ap got f.1 ∙ got-append old f.0)) (short_longer (got old) (got f.0) few.items few.rest few.got_is);
           lawful = few.lawful;
         }

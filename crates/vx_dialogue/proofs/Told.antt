@@ -8,13 +8,14 @@ use Rattle.vx_smt_meaning.specs.Replies.{answer_of}
 use Rattle.vx_smt_meaning.specs.Dialogues.{is_plain, Answers, Check, check_at, checks_told}
 use Rattle.vx_smt_meaning.specs.declared.reply.Reply.{Reply}
 use Rattle.vx_smt_text.specs.Text.{command_text, commands_text}
+use Rattle.vx_smt_text.specs.Small.{IsSmallCommand}
 use Rattle.vx_dialogue.specs.declared.dialogue.Dialogue.{Dialogue}
 use Rattle.vx_dialogue.specs.Items.{ShortItems, ReadsItem}
 use Rattle.vx_dialogue.specs.Hears.{ReadsSuccesses}
 use Rattle.vx_dialogue.specs.Dialogue.{Gathers, Waits, told_check}
 use Rattle.vx_dialogue.specs.Pace.{KeepsPace}
 use Rattle.vx_dialogue.proofs.Pace.{pace_none, pace_longer, pace_sent, pace_got}
-use Rattle.vx_dialogue.proofs.Lists.{none_more, length_more, text_append, text_more, stack_append, plain_join, no_checks, successes_to, answers_join, checks_join}
+use Rattle.vx_dialogue.proofs.Lists.{none_more, length_more, text_append, text_more, stack_append, plain_join, small_join, no_checks, successes_to, answers_join, checks_join}
 use Rattle.vx_dialogue.proofs.Joined.{short_longer, short_join}
 
 -- Items that were read, and then some more of what was got meanwhile.
@@ -23,10 +24,10 @@ items_go_on got0 unread0 got1 unread1 more xs ys is e f =
     subst (λ x. ShortItems x (xs ++ ys) unread1) (sym is) (short_join (got0 ++ more) xs ys (unread0 ++ more) unread1 (short_longer got0 more xs unread0 e) f)
 
 -- one command more is gathered
-pub gathers_said : {L : Type 0} (dialogue : L → List Piece) (d e : Dialogue L) (c : Command) → is_plain c ≡ true
+pub gathers_said : {L : Type 0} (dialogue : L → List Piece) (d e : Dialogue L) (c : Command) → is_plain c ≡ true → IsSmallCommand c
     → e.link ≡ d.link → e.batch.items ≡ d.batch.items ++ command_text c → e.count ≡ d.count + 1 → e.unread.items ≡ d.unread.items → d.count < 256
     → (commands : List Command) (checks : List Check) → Gathers dialogue d commands checks → Gathers dialogue e (commands ++ c ∷ []) checks
-gathers_said dialogue d e c plain link batch count unread room commands checks g = record {
+gathers_said dialogue d e c plain small link batch count unread room commands checks g = record {
   answered = g.answered;
   gathered = g.gathered ++ c ∷ [];
   items = g.items;
@@ -36,6 +37,7 @@ gathers_said dialogue d e c plain link batch count unread room commands checks g
   count_is = count ∙ rw g.count_is (sym (length_more g.gathered c));
   few = omega (arith, length_more g.gathered c, g.count_is);
   pace = rw link (pace_longer commands (c ∷ []) (dialogue d.link) g.pace);
+  small = small_join commands (c ∷ []) g.small (small, tt);
   plain = plain_join g.gathered (c ∷ []) g.plain (plain, tt);
   got_is = rw (link, unread) g.got_is;
   lawful = g.lawful;
@@ -63,7 +65,8 @@ gathers_sent dialogue d e between sends gets sent_between sent_on batch count re
       count_is = count;
       few = omega arith;
       pace = pace_got commands between (dialogue e.link) gets (pace_sent (dialogue d.link) between d.batch.items commands g.answered g.gathered g.items d.unread.items
-          g.all sends sent_between g.sent_is g.batch_is g.few g.got_is g.lawful g.pace);
+          g.all sends sent_between g.sent_is g.batch_is g.few g.small g.got_is g.lawful g.pace);
+      small = g.small;
       plain = tt;
       got_is = items_go_on _ _ _ _ reads.0 g.items successes reads.1 g.got_is reads.3;
       lawful = answers_join g.answered g.gathered g.items successes g.lawful replies;
@@ -85,7 +88,9 @@ waits_sent dialogue d e sends room sent_on batch count owed got_on unread comman
   owed_is = owed ∙ ap Some g.count_is;
   pace = pace_sent (dialogue d.link) (dialogue e.link) (d.batch.items ++ command_text CheckSat) (commands ++ CheckSat ∷ []) g.answered (g.gathered ++ CheckSat ∷ []) g.items d.unread.items
       (ap (λ x. x ++ CheckSat ∷ []) g.all ∙ append_assoc g.answered g.gathered (CheckSat ∷ [])) sends sent_on g.sent_is (ap (λ x. x ++ command_text CheckSat) g.batch_is ∙ sym (text_more g.gathered CheckSat))
-      (omega (arith, length_more g.gathered CheckSat, g.count_is)) g.got_is g.lawful (pace_longer commands (CheckSat ∷ []) (dialogue d.link) g.pace);
+      (omega (arith, length_more g.gathered CheckSat, g.count_is)) (small_join commands (CheckSat ∷ []) g.small (tt, tt)) g.got_is g.lawful
+      (pace_longer commands (CheckSat ∷ []) (dialogue d.link) g.pace);
+  small = small_join commands (CheckSat ∷ []) g.small (tt, tt);
   plain = g.plain;
   got_is = rw (got_on, unread) g.got_is;
   lawful = g.lawful;
@@ -124,6 +129,7 @@ gathers_answered dialogue d e owed got1 unread1 item reply gets owed_is sent_on 
       count_is = count ∙ w.count_is;
       few = omega arith;
       pace = pace_got commands (dialogue d.link) (dialogue e.link) gets w.pace;
+      small = w.small;
       plain = tt;
       got_is = items_go_on _ _ _ _ answers.0 (w.items ++ successes) (item ∷ []) answers.1 got_before (_, answers.2, refl);
       lawful = subst (λ x. Answers x ((w.items ++ successes) ++ item ∷ [])) (sym w.all) (answers_join before (CheckSat ∷ []) (w.items ++ successes) (item ∷ []) lawful_before last);
@@ -143,6 +149,7 @@ gathers_none dialogue d link batch count unread = record {
   count_is = count;
   few = omega arith;
   pace = subst (KeepsPace []) (sym link) (pace_none []);
+  small = tt;
   plain = tt;
   got_is = unread ∙ sym (ap got link);
   lawful = tt;

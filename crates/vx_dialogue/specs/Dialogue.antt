@@ -9,10 +9,12 @@ use Rattle.vx_terms.specs.Terms.{Term}
 use Rattle.vx_terms.specs.Build.{negate}
 use Rattle.vx_terms.specs.declared.term.Term.{Term as Term'}
 use Rattle.vx_terms.specs.Views.{term}
+use Rattle.vx_terms.specs.Interpretations.{Each}
 use Rattle.vx_smt_meaning.specs.Commands.{Command, Declared, CheckSat, Level, empty_level, stack_of, assertions_of, declared_in}
 use Rattle.vx_smt_meaning.specs.Dialogues.{ArePlain, Answers, Check, checks_told}
 use Rattle.vx_smt_meaning.specs.declared.reply.Reply.{Reply}
 use Rattle.vx_smt_text.specs.Text.{commands_text}
+use Rattle.vx_smt_text.specs.Small.{IsSmallCommand}
 use Rattle.vx_dialogue.specs.Items.{ShortItems}
 use Rattle.vx_dialogue.specs.Pace.{KeepsPace}
 use Rattle.vx_segments.specs.Segments.{Entry}
@@ -50,7 +52,8 @@ IsFree d = d.failed ≡ false → (d.owed ≡ None) × (d.count ≡ 0) × IsRead
 abbrev pub IsAsked : {L : Type 0} → Dialogue L → Type 0
 IsAsked d = d.failed ≡ false → IsSome d.owed × (d.count ≡ 0) × IsReady d.levels
 
--- The commands said so far, of which those that were sent are answered; the others are gathered, at most 256, and no more ever waited for their replies. These are the checks among them.
+-- The commands said so far, of which those that were sent are answered; the others are gathered, at most 256, and no more ever waited for their replies. Their numbers fit their types.
+-- These are the checks among them.
 pub record Gathers {L : Type 0} (dialogue : L → List Piece) (d : Dialogue L) (commands : List Command) (checks : List Check) : Type 0 where
   pub answered : List Command
   pub gathered : List Command
@@ -61,6 +64,7 @@ pub record Gathers {L : Type 0} (dialogue : L → List Piece) (d : Dialogue L) (
   pub count_is : d.count ≡ length gathered
   pub few : length gathered ≤ 256
   pub pace : KeepsPace commands (dialogue d.link)
+  pub small : Each IsSmallCommand commands
   pub plain : ArePlain gathered
   pub got_is : ShortItems (got (dialogue d.link)) items d.unread.items
   pub lawful : Answers answered items
@@ -77,6 +81,7 @@ pub record Waits {L : Type 0} (dialogue : L → List Piece) (d : Dialogue L) (co
   pub count_is : d.count ≡ 0
   pub owed_is : d.owed ≡ Some (length waiting)
   pub pace : KeepsPace commands (dialogue d.link)
+  pub small : Each IsSmallCommand commands
   pub plain : ArePlain waiting
   pub got_is : ShortItems (got (dialogue d.link)) items d.unread.items
   pub lawful : Answers answered items

@@ -1,3 +1,5 @@
 pub mod Text
 pub mod Unique
+pub mod Small
+pub mod Shaped
 pub mod Pending

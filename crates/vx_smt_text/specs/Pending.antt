@@ -1,8 +1,9 @@
 -- What is still to be written of a term.
-use Rattle.std.specs.Prelude.{ℕ, ◌+◌, ◌*◌, List, [], ◌∷◌, ◌++◌, codes}
+use Rattle.std.specs.Prelude.{⊤, ℕ, ◌+◌, ◌*◌, List, [], ◌∷◌, ◌++◌, codes}
 use Rattle.vx_terms.specs.Parts.{parts, parts_in}
 use Rattle.vx_terms.specs.Views.{term, terms}
 use Rattle.vx_smt_text.specs.Text.{term_text, terms_text}
+use Rattle.vx_smt_text.specs.Small.{IsSmallTerm, AreSmallTerms}
 use Rattle.vx_smt_text.specs.declared.terms.Pending.{Pending}
 use Rattle.vx_smt_text.specs.declared.terms.Pending.TheVariants as pending'
 
@@ -27,3 +28,14 @@ load_of pending'.Close = 1
 abbrev pub load : List Pending → ℕ
 load [] = 0
 load (p ∷ ps) = load_of p + load ps
+
+-- its numbers fit
+abbrev pub IsSmallPending : Pending → Type 0
+IsSmallPending (pending'.Term t) = IsSmallTerm (term t.now)
+IsSmallPending (pending'.Next t) = IsSmallTerm (term t.now)
+IsSmallPending (pending'.Args ts) = AreSmallTerms (terms ts.now)
+IsSmallPending pending'.Close = ⊤
+
+abbrev pub ArePendingSmall : List Pending → Type 0
+ArePendingSmall [] = ⊤
+ArePendingSmall (p ∷ ps) = IsSmallPending p × ArePendingSmall ps

@@ -4,7 +4,8 @@ ghost use Rattle.vx_terms.specs.Parts.{parts};
 ghost use Rattle.vx_terms.specs.Terms as Written;
 ghost use Rattle.vx_terms.specs.Views.{sort, symbol, operator, term, terms};
 ghost use Rattle.vx_smt_text.specs.Text.{term_text};
-ghost use Rattle.vx_smt_text.specs.Pending.{pending_text, texts, load_of, load};
+ghost use Rattle.vx_smt_text.specs.Small.{IsSmallTerm};
+ghost use Rattle.vx_smt_text.specs.Pending.{pending_text, texts, load_of, load, IsSmallPending, ArePendingSmall};
 
 use crate::text::{put_number, put_operator, put_part, put_symbol};
 use std::alloc::{AllocError, Global};
@@ -22,10 +23,11 @@ pub enum Pending<'t> {
 }
 
 /// Puts it before all else that is still to be written.
-#[tactic(auto, using(crate::proofs::Pendings::texts_more, crate::proofs::Pendings::load_more))]
+#[tactic(auto, using(crate::proofs::Pendings::texts_more, crate::proofs::Pendings::load_more, crate::proofs::Pendings::small_more))]
 fn put_off<'t>(pending: &mut Vec<Pending<'t>>, what: Pending<'t>) -> Result<(), AllocError>
     ensures text { OnOk result (texts pending.new.items ≡ pending_text what.entry ++ texts pending.old.items) }
     ensures load { OnOk result (load pending.new.items ≡ load_of what.entry + load pending.old.items) }
+    ensures small { OnOk result (ArePendingSmall pending.new.items → IsSmallPending what.entry × ArePendingSmall pending.old.items) }
 {
     pending.push(what)?;
     Ok(())
@@ -40,6 +42,7 @@ fn put_application<'t>(
 ) -> Result<(), AllocError>
     ensures text { OnOk result (text.new.items ++ texts pending.new.items ≡ text.old.items ++ term_text (Written.Apply (symbol f.now) (sort a.now) (terms args.now)) ++ texts pending.old.items) }
     ensures load { OnOk result (load pending.new.items < 4 * parts (Written.Apply (symbol f.now) (sort a.now) (terms args.now)) + load pending.old.items) }
+    ensures small { OnOk result (ArePendingSmall pending.new.items → IsSmallTerm (Written.Apply (symbol f.now) (sort a.now) (terms args.now)) × ArePendingSmall pending.old.items) }
 {
     text.push(b'(')?;
     put_symbol(text, f)?;
@@ -56,6 +59,7 @@ fn put_operation<'t>(
 ) -> Result<(), AllocError>
     ensures text { OnOk result (text.new.items ++ texts pending.new.items ≡ text.old.items ++ term_text (Written.Binary (operator o) (term t.now) (term u.now)) ++ texts pending.old.items) }
     ensures load { OnOk result (load pending.new.items < 4 * parts (Written.Binary (operator o) (term t.now) (term u.now)) + load pending.old.items) }
+    ensures small { OnOk result (ArePendingSmall pending.new.items → IsSmallTerm (Written.Binary (operator o) (term t.now) (term u.now)) × ArePendingSmall pending.old.items) }
 {
     text.push(b'(')?;
     put_operator(text, o)?;
@@ -73,6 +77,7 @@ fn put_choice<'t>(
 ) -> Result<(), AllocError>
     ensures text { OnOk result (text.new.items ++ texts pending.new.items ≡ text.old.items ++ term_text (Written.Ite (term c.now) (term t.now) (term u.now)) ++ texts pending.old.items) }
     ensures load { OnOk result (load pending.new.items < 4 * parts (Written.Ite (term c.now) (term t.now) (term u.now)) + load pending.old.items) }
+    ensures small { OnOk result (ArePendingSmall pending.new.items → IsSmallTerm (Written.Ite (term c.now) (term t.now) (term u.now)) × ArePendingSmall pending.old.items) }
 {
     text.extend_from_slice(b"(ite ")?;
     put_off(pending, Pending::Close)?;
@@ -89,6 +94,7 @@ fn put_node<'t>(
 ) -> Result<(), AllocError>
     ensures text { OnOk result (text.new.items ++ texts pending.new.items ≡ text.old.items ++ term_text (term t.now) ++ texts pending.old.items) }
     ensures load { OnOk result (load pending.new.items < 4 * parts (term t.now) + load pending.old.items) }
+    ensures small { OnOk result (ArePendingSmall pending.new.items → IsSmallTerm (term t.now) × ArePendingSmall pending.old.items) }
 {
     match t {
         Term::Truth(true) => text.extend_from_slice(b"true"),
@@ -125,6 +131,7 @@ fn put_next<'t>(
 ) -> Result<(), AllocError>
     ensures text { OnOk result (text.new.items ++ texts pending.new.items ≡ text.old.items ++ pending_text next.entry ++ texts pending.old.items) }
     ensures load { OnOk result (load pending.new.items < load_of next.entry + load pending.old.items) }
+    ensures small { OnOk result (ArePendingSmall pending.new.items → IsSmallPending next.entry × ArePendingSmall pending.old.items) }
 {
     match next {
         Pending::Term(t) => put_node(text, pending, t),
@@ -148,7 +155,8 @@ fn put_next<'t>(
 
 /// Writes a term at the end. After want of memory some of it may be written.
 pub fn put_term(alloc: Global, text: &mut Vec<u8>, t: &Term) -> Result<(), AllocError>
-    ensures { OnOk result (text.new.items ≡ text.old.items ++ term_text (term t.now)) }
+    ensures text { OnOk result (text.new.items ≡ text.old.items ++ term_text (term t.now)) }
+    ensures small { OnOk result (IsSmallTerm (term t.now)) }
 {
     let mut pending = Vec::new(alloc);
     put_off(&mut pending, Pending::Term(t))?;

@@ -1,11 +1,12 @@
 // The text of a command.
-ghost use Rattle.std.specs.Prelude.{◌≡◌, ◌∷◌, ◌++◌, ◌<◌, ◌+◌, ◌^◌, ℕ, List, [], OnOk, OnErr, ℤ, nat_abs, map};
+ghost use Rattle.std.specs.Prelude.{◌≡◌, ◌∷◌, ◌++◌, ◌<◌, ◌+◌, ◌^◌, ℕ, suc, List, [], OnOk, OnErr, ℤ, nat_abs, map};
 ghost use Rattle.vx_frac.specs.Fraction.{fraction};
 ghost use Rattle.vx_terms.specs.Views.{sort, symbol, operator, term, terms};
 ghost use Rattle.vx_smt_meaning.specs.Commands as Spec;
 ghost use Rattle.vx_smt_meaning.specs.Views.{command, declared_symbol};
 ghost use Rattle.vx_smt_meaning.specs.Words.{digits, numeral, decimal, sort_word, symbol_word, operator_word, truth_word};
 ghost use Rattle.vx_terms.specs.Sorts as Written;
+ghost use Rattle.vx_smt_text.specs.Small.{IsSmallSymbol, IsSmallCommand};
 ghost use Rattle.vx_smt_text.specs.Unique.{IsReadable, SpellsOnly};
 ghost use Rattle.vx_smt_text.specs.Text.{quotient_text, signed_text, sorts_text, more_sorts, front_text, command_text, set_option_head, set_logic_head, declare_sort_head, declare_fun_head};
 
@@ -70,7 +71,8 @@ fn put_lettered(text: &mut Vec<u8>, letter: u8, n: u64) -> Result<(), AllocError
 }
 
 pub(crate) fn put_symbol(text: &mut Vec<u8>, f: &Symbol) -> Result<(), AllocError>
-    ensures { OnOk result (text.new.items ≡ text.old.items ++ symbol_word (symbol f.now)) }
+    ensures text { OnOk result (text.new.items ≡ text.old.items ++ symbol_word (symbol f.now)) }
+    ensures small { OnOk result (IsSmallSymbol (symbol f.now)) }
 {
     match f {
         Symbol::Standard(n) => put_lettered(text, b's', u64::from(*n)),
@@ -133,7 +135,8 @@ pub fn put_number(text: &mut Vec<u8>, z: i128) -> Result<(), AllocError>
 }
 
 pub(crate) fn put_part(text: &mut Vec<u8>, part: Frac) -> Result<(), AllocError>
-    ensures { OnOk result (text.new.items ≡ text.old.items ++ signed_text part.num (λ p. quotient_text p (fraction part).below)) }
+    ensures text { OnOk result (text.new.items ≡ text.old.items ++ signed_text part.num (λ p. quotient_text p (fraction part).below)) }
+    ensures small { OnOk result (suc (fraction part).below < 2 ^ 127) }
 {
     let below = part.den().unsigned_abs() - 1;
     if part.num() < 0 {
@@ -229,7 +232,8 @@ fn put_declare_sort(text: &mut Vec<u8>, x: &[u8]) -> Result<(), AllocError>
 }
 
 fn put_declare_fun(text: &mut Vec<u8>, d: &Declared) -> Result<(), AllocError>
-    ensures { OnOk result (text.new.items ≡ text.old.items ++ front_text (Spec.DeclareFun (declared_symbol d.now))) }
+    ensures text { OnOk result (text.new.items ≡ text.old.items ++ front_text (Spec.DeclareFun (declared_symbol d.now))) }
+    ensures small { OnOk result (IsSmallSymbol (declared_symbol d.now).symbol) }
 {
     put_declare_fun_head(text)?;
     put_symbol(text, &d.symbol)?;
@@ -240,7 +244,8 @@ fn put_declare_fun(text: &mut Vec<u8>, d: &Declared) -> Result<(), AllocError>
 }
 
 fn put_front(alloc: Global, text: &mut Vec<u8>, c: &Command) -> Result<(), AllocError>
-    ensures { OnOk result (text.new.items ≡ text.old.items ++ front_text (command c.now)) }
+    ensures text { OnOk result (text.new.items ≡ text.old.items ++ front_text (command c.now)) }
+    ensures small { OnOk result (IsSmallCommand (command c.now)) }
 {
     match c {
         Command::SetOption(x, b) => put_set_option(text, x.as_bytes(), *b)?,
@@ -272,6 +277,7 @@ pub fn write(alloc: Global, c: &Command, out: &mut Vec<u8>) -> Result<(), AllocE
     ensures ok { OnOk result (out.new.items ≡ out.old.items ++ command_text (command c.now)) }
     ensures only { OnOk result ((sorts : Written.Symbol → Written.Sort) → IsReadable sorts (command c.now)
         → (text : List ℕ) × (out.new.items ≡ out.old.items ++ text) × SpellsOnly sorts text (command c.now ∷ [])) }
+    ensures small { OnOk result (IsSmallCommand (command c.now)) }
     ensures err { OnErr result (out.new.items ≡ out.old.items) }
 {
     let mut text = Vec::new(alloc);

@@ -11,7 +11,7 @@ returns-clause-told g c = λ plain commands checks told.
     let room = c.make_room.new.self in
     let before = c.in_ok-make_room.ensures.told commands checks told in
     let written : c.extend_from_slice.new.self.items ≡ room.batch.items ++ command_text (command c.args.c.now) = search rules in
-    gathers_said g.L.Link.dialogue room _ (command c.args.c.now) plain refl written refl refl c.in_ok-make_room.ensures.count commands checks before
+    gathers_said g.L.Link.dialogue room _ (command c.args.c.now) plain c.in_ok-write.ensures.small refl written refl refl c.in_ok-make_room.ensures.count commands checks before
 
 pub returns-in_err-write-clause-fault : goal.returns-in_err-write-clause-fault
 returns-in_err-write-clause-fault g c = let p = err_from_is_err_and c.from_residual.result c.from_residual.ensures.1 in rw p.1 (λ commands checks told named.
