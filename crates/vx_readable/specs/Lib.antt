@@ -1,0 +1,4 @@
+pub mod Numerals
+pub mod Readable
+pub mod Texts
+pub mod Examples
