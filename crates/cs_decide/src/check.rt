@@ -204,7 +204,7 @@ impl Check {
     pub(crate) fn examine(
         &mut self,
         alloc: Global,
-        values: &[Value],
+        made: &Assignment,
         meter: &mut Meter,
     ) -> Result<Found, Stop>
         ensures spent { meter.old.spent ≤ meter.new.spent }
@@ -214,7 +214,7 @@ impl Check {
             alloc,
             &mut self.record,
             &self.atoms,
-            values,
+            made,
             &self.claims,
             meter,
         )

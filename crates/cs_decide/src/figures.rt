@@ -13,7 +13,8 @@ use cs_record::atoms::Atoms;
 use cs_record::cases::{order, parted};
 use cs_record::draft::Lemma;
 use cs_record::numbered::Record;
-use cs_search::Value;
+use cs_search::assignment::Assignment;
+use cs_search::{Entry, Value};
 use cs_sums::{Arithmetic, Contradiction, Share, numbers_of};
 use std::alloc::Global;
 use vx_frac::{Frac, Over};
@@ -160,21 +161,19 @@ impl Figures {
         }
     }
 
-    /// Claims what an assignment says of the comparisons. Two that contradict each other are given back.
+    /// Claims what an assignment says of the comparisons, in the order in which it came to say so: of two bounds that say the same, the one that
+    /// holds by less stands. Two that contradict each other are given back.
     fn claim(
         &mut self,
         alloc: Global,
         atoms: &Atoms,
-        values: &[Value],
+        trail: &[Entry],
     ) -> Result<Option<Vec<Share>>, Stop> {
         self.arithmetic.forget();
-        for at in 0..self.comparisons.len() {
-            let Some(number) = self.comparisons.get(at) else {
-                return Err(Stop::Miss);
-            };
-            let number = *number;
-            if let Some(holds) = value_of(values, atoms.find(number)) {
-                if let Some(shares) = self.claim_one(alloc, number, holds)? {
+        for entry in trail {
+            let literal = atoms.term(entry.literal)?;
+            if self.arithmetic.has(literal.number) {
+                if let Some(shares) = self.claim_one(alloc, literal.number, literal.positive)? {
                     return Ok(Some(shares));
                 }
             }
@@ -314,21 +313,21 @@ impl Figures {
         alloc: Global,
         record: &mut Record,
         atoms: &Atoms,
-        values: &[Value],
+        made: &Assignment,
         claims: &Claims,
         meter: &mut Meter,
     ) -> Result<Found, Stop>
         ensures spent { meter.old.spent ≤ meter.new.spent }
         ensures cases { IfOk result (SpendsOnCases meter.old.spent meter.new.spent) }
     {
-        if let Some(shares) = self.claim(alloc, atoms, values)? {
+        if let Some(shares) = self.claim(alloc, atoms, &made.trail)? {
             let lemma = refutation_of(alloc, record, claims, &shares)?;
             return Ok(Found::Lemma(lemma));
         }
         if let Some(found) = self.settle(alloc, record, claims, meter)? {
             return self.refuted(alloc, record, atoms, claims, meter, &found);
         }
-        match self.cases(alloc, record, atoms, values, claims)? {
+        match self.cases(alloc, record, atoms, &made.values, claims)? {
             Some(cases) => self.tell(meter, cases),
             None => Ok(Found::Values),
         }
@@ -365,7 +364,7 @@ impl Figures {
         alloc: Global,
         record: &mut Record,
         atoms: &Atoms,
-        values: &[Value],
+        made: &Assignment,
         claims: &Claims,
         meter: &mut Meter,
     ) -> Result<Found, Stop>
@@ -373,12 +372,12 @@ impl Figures {
         ensures cases { IfOk result (SpendsOnCases meter.old.spent meter.new.spent) }
     {
         for _ in 0..LIGHTENINGS {
-            match self.weigh(alloc, record, atoms, values, claims, meter) {
+            match self.weigh(alloc, record, atoms, made, claims, meter) {
                 Err(Stop::Over(call)) => self.lighten(alloc, record, call)?,
                 found => return found,
             }
         }
-        self.weigh(alloc, record, atoms, values, claims, meter)
+        self.weigh(alloc, record, atoms, made, claims, meter)
     }
 
     /// Why a model is none. Where something wasn't claimed, this may be why.

@@ -6,7 +6,7 @@ ghost use Rattle.cs_answer.specs.Causes.{IsCause};
 ghost use Rattle.cs_answer.specs.Few.{IsFew, IsDecided};
 
 use cs_answer::{Answer, Cause, is_few};
-use cs_eager::{Settled, settle};
+use cs_ground::{Settled, settle};
 use cs_proof::{Stack, Want, finished_refutes};
 use std::alloc::Global;
 

@@ -111,7 +111,7 @@ fn figured(
     ensures spends { IfOk result (λ found. IfNone found (meter.old.spent < meter.new.spent)) }
     ensures kept { (result ≡ Err Stop.Want → ⊥) → meter.old.spent ≤ meter.new.spent }
 {
-    match check.examine(alloc, &search.made.values, meter)? {
+    match check.examine(alloc, &search.made, meter)? {
         Found::Lemma(lemma) => take_lemma(alloc, stack, check, search, &lemma, meter),
         Found::Cases(cases) => {
             take_cases(alloc, check, search, &cases)?;

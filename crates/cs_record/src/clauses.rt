@@ -3,6 +3,7 @@ ghost use Rattle.std.specs.Prelude.{IfOk};
 ghost use Rattle.cs_search.specs.Search.{IsReady};
 
 use crate::atoms::Atoms;
+use crate::bounds::bounds_of;
 use crate::cases::divided;
 use crate::numbered::Record;
 use cs_numbers::place_of;
@@ -164,7 +165,7 @@ impl Clauses {
         Ok(())
     }
 
-    /// A choice is one of its two sides, if the term is a choice that isn't Bool.
+    /// A choice is one of its two sides, if the term is a choice that isn't Bool; between literals it keeps their bounds.
     fn put_choice(&mut self, alloc: Global, record: &mut Record, t: u32) -> Result<(), Stop> {
         let Some((left, right)) = sides_of(record, t)? else {
             return Ok(());
@@ -175,6 +176,22 @@ impl Clauses {
             let clause = pick(alloc, &record.table, t, row)?;
             let step = Step::Pick(u128::from(t), u128::from(row));
             self.put_step(alloc, record, step, &clause)?;
+        }
+        self.put_bounds(alloc, record, t, left, right)
+    }
+
+    /// The bounds of a choice between two literals.
+    fn put_bounds(
+        &mut self,
+        alloc: Global,
+        record: &mut Record,
+        t: u32,
+        left: u32,
+        right: u32,
+    ) -> Result<(), Stop> {
+        if let Some((low, high)) = bounds_of(alloc, record, t, left, right)? {
+            self.put(alloc, &low.literals, low.number)?;
+            self.put(alloc, &high.literals, high.number)?;
         }
         Ok(())
     }

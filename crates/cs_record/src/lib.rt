@@ -4,6 +4,7 @@
 
 pub mod assembly;
 pub mod atoms;
+pub mod bounds;
 pub mod cases;
 pub mod clauses;
 pub mod draft;

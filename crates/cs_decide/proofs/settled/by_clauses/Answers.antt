@@ -1,6 +1,6 @@
 use Rattle.std.proofs.Common.{subst}
 use Rattle.cs_proof.specs.Fits.{seen}
-use Rattle.cs_eager.specs.Answers.{IsSettled}
+use Rattle.cs_ground.specs.Answers.{IsSettled}
 use Rattle.cs_decide.proofs.settled.by_clauses.Goals as goal
 
 pub returns-in-Refuted-clause-right : goal.returns-in-Refuted-clause-right
