@@ -13,3 +13,4 @@ pub mod Pivots
 pub mod Reciprocals
 pub mod Sums
 pub mod Turned
+pub mod Mending

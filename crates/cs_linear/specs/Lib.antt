@@ -10,3 +10,4 @@ pub mod Views
 pub mod Limits
 pub mod Checks
 pub mod Results
+pub mod Turns

@@ -1,8 +1,9 @@
 //! One broken bound is mended, or there is a contradiction; and the check, which goes on until none is broken.
-ghost use Rattle.std.specs.Prelude.{◌≡◌, ◌<◌, ◌≤◌, length, List, All, IfOk, IfErr, IfSome, OnOk, slice_get, Some, true, false, pos, ℕ, ◌-◌};
+ghost use Rattle.std.specs.Prelude.{◌≡◌, ◌<◌, ◌≤◌, length, List, All, IfOk, IfErr, IfSome, IfNone, OnOk, slice_get, Some, true, false, pos, ℕ, ◌-◌};
 ghost use Rattle.vx_frac.specs.Fraction.{fraction};
+ghost use Rattle.vx_frac.specs.Fractions.{minus};
 ghost use Rattle.cs_meter.specs.Units.{limit};
-ghost use Rattle.cs_linear.specs.Numbers.{IsCause};
+ghost use Rattle.cs_linear.specs.Numbers.{plus, IsCause};
 ghost use Rattle.cs_linear.specs.Rows.{IsFree};
 ghost use Rattle.cs_linear.specs.Values.{values};
 ghost use Rattle.cs_linear.specs.Contradictions.{IsAmong, is_broken, IsContradiction};
@@ -10,6 +11,7 @@ ghost use Rattle.cs_linear.specs.Checks.{AreLimits, AreTight};
 ghost use Rattle.cs_linear.specs.Limits.{AreMarked, ArePending};
 ghost use Rattle.cs_linear.specs.Views.{width_of, rows_of, bounds_of};
 ghost use Rattle.cs_linear.specs.Results.{IsChecked, IsUndecided, IsStep, IsEntryOf};
+ghost use Rattle.cs_linear.specs.Turns.{IsAtLimit, IsTurn, IsStopped, Pays, HasPaid};
 
 use crate::bounds::{Bound, Part, Value};
 use crate::check::{Way, find_way, own, toward};
@@ -59,9 +61,11 @@ fn cause_of(stop: Stop) -> Undecided
     }
 }
 
+#[tactic(auto, unfolding(crate::specs::Numbers::plus))]
 /// From a value to a limit.
 fn difference(limit: Frac, value: Frac) -> Result<Frac, Stop>
-    ensures { IfErr result IsCause }
+    ensures value { IfOk result (λ d. fraction d ≡ plus (fraction limit) (minus (fraction value))) }
+    ensures cause { IfErr result IsCause }
 {
     match limit.sub(value) {
         Ok(difference) => Ok(difference),
@@ -89,6 +93,7 @@ impl Tableau {
         ensures rows { self.new.originals ≡ self.old.originals }
         ensures homes { self.new.homes ≡ self.old.homes }
         ensures bounds { self.new.bounds ≡ self.old.bounds }
+        ensures met { OnOk result (IsAtLimit (values self.new.mains.items) (values self.new.deltas.items) bound) }
         ensures marked { AreMarked self.old.mains.items self.old.deltas.items self.new.mains.items self.new.deltas.items marks.old.items marks.new.items }
         ensures cause { IfErr result IsCause }
     {
@@ -108,6 +113,7 @@ impl Tableau {
         marks: &mut Vec<bool>,
     ) -> Result<(), Stop>
         requires known { bound.column < length self.old.homes.items }
+        requires home { slice_get self.old.homes.items bound.column ≡ Some (Some at) }
         requires row { at < length self.old.rows.items }
         requires entry { IsEntryOf self.old.rows.items at entry }
         requires some { ¬ ((fraction entry.factor).numerator ≡ pos 0) }
@@ -115,15 +121,16 @@ impl Tableau {
         ensures rows { self.new.originals ≡ self.old.originals }
         ensures width { length self.new.homes.items ≡ length self.old.homes.items }
         ensures bounds { self.new.bounds ≡ self.old.bounds }
+        ensures met { OnOk result (IsAtLimit (values self.new.mains.items) (values self.new.deltas.items) bound) }
         ensures marked { AreMarked self.old.mains.items self.old.deltas.items self.new.mains.items self.new.deltas.items marks.old.items marks.new.items }
         ensures cause { IfErr result IsCause }
     {
         let value = self.value(bound.column);
         let inverse = reciprocal(entry.factor)?;
-        let main = difference(bound.limit.main, value.main)?;
-        let delta = difference(bound.limit.delta, value.delta)?;
-        let main = times(main, inverse)?;
-        let delta = times(delta, inverse)?;
+        let main_way = difference(bound.limit.main, value.main)?;
+        let delta_way = difference(bound.limit.delta, value.delta)?;
+        let main = times(main_way, inverse)?;
+        let delta = times(delta_way, inverse)?;
         self.move_free(alloc, entry.column, main, delta, marks)?;
         self.pivot(alloc, at, entry.column, entry.factor)
     }
@@ -150,6 +157,7 @@ impl Tableau {
         ensures bounds { self.new.bounds ≡ self.old.bounds }
         ensures marked { AreMarked self.old.mains.items self.old.deltas.items self.new.mains.items self.new.deltas.items marks.old.items marks.new.items }
         ensures conflict { IfOk result (λ o. IfSome o (λ c. IsContradiction self.old.originals.items self.old.bounds.items c.parts.items)) }
+        ensures met { IfOk result (λ o. IfNone o (IsAtLimit (values self.new.mains.items) (values self.new.deltas.items) bound)) }
         ensures cause { IfErr result IsCause }
     {
         let toward = toward(bound.side);
@@ -199,6 +207,7 @@ impl Tableau {
         ensures bounds { self.new.bounds ≡ self.old.bounds }
         ensures marked { AreMarked self.old.mains.items self.old.deltas.items self.new.mains.items self.new.deltas.items marks.old.items marks.new.items }
         ensures conflict { IfOk result (λ o. IfSome o (λ c. IsContradiction self.old.originals.items self.old.bounds.items c.parts.items)) }
+        ensures met { IfOk result (λ o. IfNone o (IsAtLimit (values self.new.mains.items) (values self.new.deltas.items) bound)) }
         ensures cause { IfErr result IsCause }
     {
         match self.homes[bound.column as usize] {
@@ -210,7 +219,7 @@ impl Tableau {
         }
     }
 
-    /// Spends a unit on the first broken bound, if one is.
+    /// Spends a unit on the first broken bound, if one is: its column comes to the limit, or there is a conflict.
     fn turn(
         &mut self,
         alloc: Global,
@@ -232,6 +241,8 @@ impl Tableau {
         ensures pending { ArePending limits.now (values self.new.mains.items) (values self.new.deltas.items) marks.new.items }
         ensures turn { IfOk result (IsStep self.new meter.old.spent meter.new.spent) }
         ensures spent { meter.old.spent ≤ meter.new.spent }
+        ensures units { IfOk result (IsTurn self.old self.new meter.old.spent meter.new.spent) }
+        ensures stopped { IfErr result (IsStopped meter.old.spent meter.new.spent) }
         ensures undecided { IfErr result (IsUndecided meter.new.spent) }
     {
         match limits.first_broken(marks, &self.mains, &self.deltas) {
@@ -251,7 +262,7 @@ impl Tableau {
     }
 
     /// Whether values meet all bounds over the rows: `Feasible` where those of the columns do now, or a conflict.
-    /// One unit is spent for each bound that is mended.
+    /// One unit is spent for each bound that is mended, and one for a conflict.
     ///
     /// # Errors
     /// `Budget` only where all units are spent, `Over` with a call that leaves 128 bits, or `Want`. The rows and bounds are
@@ -262,6 +273,8 @@ impl Tableau {
         ensures bounds { bounds_of self.new ≡ bounds_of self.old }
         ensures checked { IfOk result (IsChecked self.new) }
         ensures spent { meter.old.spent ≤ meter.new.spent }
+        ensures paid { IfOk result (Pays self.old meter.old.spent meter.new.spent) }
+        ensures stopped { IfErr result (HasPaid self.old meter.old.spent meter.new.spent) }
         ensures undecided { IfErr result (IsUndecided meter.new.spent) }
     {
         let limits = match Limits::new(alloc, &self.bounds, self.homes.len()) {

@@ -1,8 +1,10 @@
 use Rattle.cs_linear.specs.declared.rows.Row.{Row}
 use Rattle.cs_linear.proofs.Lists.{long}
+use Rattle.cs_linear.proofs.Mending.{mended_over, paid_at_once, ended_paid, stopped_paid}
+use Rattle.cs_linear.specs.Turns.{none, more, HasPaid}
 use Rattle.cs_linear.specs.Checks.{AreLimits, AreTight}
 use Rattle.cs_linear.specs.declared.bounds.Bound.{Bound}
-use Rattle.std.proofs.Common.{List, Vec, Global, ◌∙◌, refl, sym, subst, arith, ap}
+use Rattle.std.proofs.Common.{rules, suc, List, Vec, Global, ◌∙◌, refl, sym, subst, arith, ap}
 use Rattle.cs_linear.proofs.tableau.Tableau.check.Goals as goal
 
 pub returns-in-Err-clause-undecided : goal.returns-in-Err-clause-undecided
@@ -14,6 +16,9 @@ returns-in-Err-all_marked-clause-undecided c = c.cause_of-in-Err-all_marked.ensu
 pub loop-marks-preserved : goal.loop-marks-preserved
 loop-marks-preserved c =
     let i = c.loop-marks.invariant in
+    let t = rw c.in-On.is at c.in_ok-checked.ensures.units in
+    let before = i.paid.2 in
+    let one = t.1 in
     record {
       rows = c.in_ok-checked.ensures.rows ∙ i.rows;
       width = c.in_ok-checked.ensures.width ∙ i.width;
@@ -24,6 +29,7 @@ loop-marks-preserved c =
       marks = c.in_ok-checked.ensures.count ∙ i.marks ∙ sym c.in_ok-checked.ensures.width;
       lower = i.lower ∙ sym c.in_ok-checked.ensures.width;
       spent = omega (arith, i.spent, c.in_ok-checked.ensures.spent);
+      paid = (suc i.paid.0, more i.paid.1 (mended_over i.bounds t.0), omega (arith, before, one));
       upper = i.upper ∙ sym c.in_ok-checked.ensures.width;
     }
 
@@ -40,6 +46,7 @@ loop-marks-init c =
       marks = c.in-Ok-all_marked.ensures.count ∙ c.len-2.ensures ∙ long s.homes;
       lower = c.in-Ok.ensures.lower_count ∙ c.len.ensures ∙ long s.homes;
       spent = omega arith;
+      paid = (0, none, omega arith);
       upper = c.in-Ok.ensures.upper_count ∙ c.len.ensures ∙ long s.homes;
     }
 
@@ -87,3 +94,20 @@ returns-in_err-checked-clause-bounds c = ap (λ (v : Vec Bound Global). v.items)
 
 pub returns-in_err-checked-clause-spent : goal.returns-in_err-checked-clause-spent
 returns-in_err-checked-clause-spent c = omega (arith, c.in_err-checked.ensures.spent, c.loop-marks.invariant.spent)
+
+pub returns-in-Ended-clause-paid : goal.returns-in-Ended-clause-paid
+returns-in-Ended-clause-paid c =
+    let p = c.loop-marks.invariant.paid in
+    ended_paid c.args.self.now _ _ _ _ p.0 p.1 p.2 _ (rw c.in-Ended.is at c.in_ok-checked.ensures.units)
+
+pub returns-in_err-checked-clause-stopped : goal.returns-in_err-checked-clause-stopped
+returns-in_err-checked-clause-stopped c =
+    let p = c.loop-marks.invariant.paid in
+    let h : HasPaid c.args.self.now c.args.meter.now.spent c.turn.new.meter.spent c.in_err-checked.field-0.0 = stopped_paid c.args.self.now _ _ _ _ p.0 p.1 p.2 _ c.in_err-checked.ensures.stopped in
+    search rules
+
+pub returns-in-Err-clause-stopped : goal.returns-in-Err-clause-stopped
+returns-in-Err-clause-stopped c = paid_at_once c.args.self.now c.args.meter.now.spent c.cause_of.result
+
+pub returns-in-Err-all_marked-clause-stopped : goal.returns-in-Err-all_marked-clause-stopped
+returns-in-Err-all_marked-clause-stopped c = paid_at_once c.args.self.now c.args.meter.now.spent c.cause_of-in-Err-all_marked.result

@@ -1,7 +1,8 @@
-use Rattle.std.proofs.Common.{◌≡◌, ◌-◌, ◌≤◌, length}
+use Rattle.std.proofs.Common.{◌≡◌, ℕ, ◌+◌, ◌-◌, ◌≤◌, length}
 use Rattle.cs_meter.specs.Units.{limit}
 use Rattle.cs_linear.specs.Checks.{AreLimits, AreTight}
 use Rattle.cs_linear.specs.Limits.{ArePending}
+use Rattle.cs_linear.specs.Turns.{Mends, standing}
 use Rattle.cs_linear.specs.Values.{values}
 use Rattle.cs_linear.proofs.tableau.Tableau.check.Given as goal
 
@@ -16,6 +17,7 @@ invariant-loop-marks l = record {
   pending : ArePending l.limits (values l.self.mains.items) (values l.self.deltas.items) l.marks.items;
   marks : length l.marks.items ≡ length l.self.homes.items;
   spent : l.fn.meter.spent ≤ l.meter.spent;
+  paid : (n : ℕ) × Mends l.fn.self.bounds.items (standing l.fn.self) n (standing l.self) × (l.meter.spent ≡ l.fn.meter.spent + n);
   upper : length l.limits.upper.items ≡ length l.self.homes.items;
 }
 

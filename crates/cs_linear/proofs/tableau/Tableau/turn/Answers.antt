@@ -4,6 +4,7 @@ use Rattle.cs_linear.proofs.Conflicts.{among_known}
 use Rattle.cs_linear.specs.Contradictions.{IsContradiction}
 use Rattle.std.proofs.Common.{subst, length, ap, sym, ◌<◌, ◌∙◌, Vec, Global, refl, arith}
 use Rattle.cs_linear.specs.Values.{values}
+use Rattle.cs_linear.proofs.Mending.{stops_with}
 use Rattle.cs_linear.proofs.Tightest.{all_meet, beyond_is, clear_as, pending_as, beyond_as, still_pending}
 use Rattle.cs_linear.proofs.tableau.Tableau.turn.Goals as goal
 
@@ -119,3 +120,15 @@ returns-in-Ok-Some-clause-spent c = omega (arith, c.in-Ok.ensures.spent)
 
 pub returns-in-Err-mend-clause-spent : goal.returns-in-Err-mend-clause-spent
 returns-in-Err-mend-clause-spent c = omega (arith, c.in-Ok.ensures.spent)
+
+pub returns-in-Ok-None-clause-units : goal.returns-in-Ok-None-clause-units
+returns-in-Ok-None-clause-units c =
+    let s = c.args.self.now in
+    let b = beyond_is s.bounds.items c.args.limits.now (values s.mains.items) (values s.deltas.items) c.in-Some.bound c.requires.limits (beyond_as c.deref.ensures.value c.deref-2.ensures.value c.in-Some.ensures.some) in
+    (record { bound = c.in-Some.bound; among = b.0; broken = b.1; met = rw c.in-Ok-None.field-0-is at c.in-Ok-None.ensures.met }, c.in-Ok.ensures.spent)
+
+pub returns-in-Ok-Some-clause-units : goal.returns-in-Ok-Some-clause-units
+returns-in-Ok-Some-clause-units c = c.in-Ok.ensures.spent
+
+pub returns-in-Err-mend-clause-stopped : goal.returns-in-Err-mend-clause-stopped
+returns-in-Err-mend-clause-stopped c = stops_with _ _ _ c.cause_of.ensures c.in-Ok.ensures.spent
