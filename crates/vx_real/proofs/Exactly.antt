@@ -23,16 +23,42 @@ use Rattle.vx_sound.proofs.Stands.{ref_of, location_of, amount_of, own, held, Ch
 use Rattle.vx_sound.proofs.Chunks.{field_resource, location_is}
 use Rattle.vx_sound.proofs.Summed.{IsOf, part, parts, part_sign, parts_append}
 
--- a chunk of a field, whose receiver is a reference
-pub record IsReal (i : Interpretation) (c : rules.Chunk) : Type 0 where
-  pub kind : c.is_field ≡ true
-  pub reference : ℕ
-  pub receiver : value i (first_argument c.arguments) ≡ element (RefValue reference)
+-- what a chunk is of, by its terms
+pub record Key : Type 0 where
+  pub is_field : Bool
+  pub resource : Name
+  pub arguments : List Term
 
--- the chunks have all that is held
+abbrev pub key_of : rules.Chunk → Key
+key_of c = record { is_field = c.is_field; resource = c.resource; arguments = c.arguments }
+
+abbrev pub keys : rules.Heap → List Key
+keys [] = []
+keys (c ∷ cs) = key_of c ∷ keys cs
+
+-- of a field, whose receiver is a reference
+pub record IsRealKey (i : Interpretation) (k : Key) : Type 0 where
+  pub kind : k.is_field ≡ true
+  pub reference : ℕ
+  pub receiver : value i (first_argument k.arguments) ≡ element (RefValue reference)
+
+abbrev pub IsReal : Interpretation → rules.Chunk → Type 0
+IsReal i c = IsRealKey i (key_of c)
+
+-- of the same field or predicate, by the same terms
+abbrev pub same_key : Key → Key → Bool
+same_key k l = (same_bool k.is_field l.is_field && same_name k.resource l.resource) && same_arguments k.arguments l.arguments
+
+-- none stands twice
+abbrev pub AreApart : List Key → Type 0
+AreApart [] = Unit {0}
+AreApart (k ∷ ks) = Each (λ (l : Key). same_key l k ≡ false) ks × AreApart ks
+
+-- the chunks have all that is held, and no receiver stands twice in a field
 pub record Exact (i : Interpretation) (chunks : rules.Heap) (holdings : run.Holdings) : Type 0 where
   pub each : Each (IsReal i) chunks
   pub all : (l : run.Location) → Le (run.amount holdings (run.At l)) (held i chunks (run.At l))
+  pub apart : AreApart (keys chunks)
 
 element_ref : (j k : ℕ) → j ≡ k → element (RefValue j) ≡ element (RefValue k)
 element_ref j k e = ap (λ n. element (RefValue n)) e

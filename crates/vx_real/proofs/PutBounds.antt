@@ -88,7 +88,7 @@ module _ (key : rules.Chunk) where
       (chosen_split true key 0 front (x ∷ back) ∙ ap₂ (λ (xs ys : List Candidate). xs ++ ys) z.front (mine_true key x (past 0 front) back mx ∙ ap (λ (ys : List Candidate). record { number = past 0 front; chunk = x } ∷ ys) z.back))
       (chosen_split false key 0 front (x ∷ back) ∙ ap (λ (ys : List Candidate). chosen false key 0 front ++ ys) (mine_false key x (past 0 front) back mx ∙ sym (mine_false key c (past 0 front) back mc)) ∙ sym (chosen_split false key 0 front (c ∷ back)))
 
-true_append : (i : Interpretation) (xs ys : List Term) → AllTrue i (xs ++ ys) → AllTrue i xs × AllTrue i ys
+pub true_append : (i : Interpretation) (xs ys : List Term) → AllTrue i (xs ++ ys) → AllTrue i xs × AllTrue i ys
 true_append i [] ys h = (tt, h)
 true_append i (x ∷ xs) ys h = let r = true_append i xs ys h.1 in ((h.0, r.0), r.1)
 

@@ -1,5 +1,5 @@
 -- Reading by the sum, the other way: where a read's question is exposed, or what follows it, the read isn't allowed, or what is read is what the state has.
-use Rattle.std.proofs.Common.{◌≡◌, ◌⊎◌, inl, inr, ℕ, suc, ◌≤◌, Bool, true, false, not, cond, ◌||◌, List, [], ◌∷◌, ◌++◌, Option, Some, None, refl, sym, ◌∙◌, ap, subst, true≢false, le_of_lt, lt-suc_self}
+use Rattle.std.proofs.Common.{◌≡◌, ◌⊎◌, inl, inr, ℕ, suc, ◌≤◌, Bool, true, false, not, cond, ◌||◌, List, [], ◌∷◌, ◌++◌, Option, Some, None, refl, sym, ◌∙◌, ap, subst, true≢false, le_refl, le_of_lt, lt-suc_self}
 use Rattle.vx_ast.specs.declared.Place.{Place}
 use Rattle.vx_ast.specs.Syntax.{Name, Program}
 use Rattle.vx_meaning.specs.Values.{RefValue}
@@ -72,7 +72,7 @@ facts_true i (t ∷ ts) s h = let r = facts_true i ts (rules.with_fact t s) h in
 pub branch_true : (i : Interpretation) (t : Term) (s : rules.State) → AllTrue i (rules.path_terms (rules.with_branch t s).path) → IsTrueIn i t × AllTrue i (rules.path_terms s.path)
 branch_true i t s h = let r = true_front i s.path (record { term = t; branch = true } ∷ []) h in (r.1.0, r.0)
 
-exposed_case : (i : Interpretation) (at : Place) (code : Code) {R : Type 0} (b : Bool) (x y : Tree) → Exposed i at code (cond b x y) → (b ≡ true → Exposed i at code x → R) → (b ≡ false → Exposed i at code y → R) → R
+pub exposed_case : (i : Interpretation) (at : Place) (code : Code) {R : Type 0} (b : Bool) (x y : Tree) → Exposed i at code (cond b x y) → (b ≡ true → Exposed i at code x → R) → (b ≡ false → Exposed i at code y → R) → R
 exposed_case i at code true x y h left right = left refl h
 exposed_case i at code false x y h left right = right refl h
 
@@ -128,6 +128,7 @@ module _ (means : Meaning) (world : World) where
   pub record ReadReal (scope : Scope) (f : Name) (k : ℕ) (i : Interpretation) (at : Place) (code : Code) (s : rules.State) (c : run.State) (on : Giving) : Type 0 where
     pub state : rules.State
     pub term : Term
+    pub later : s.next ≤ state.next
     pub heap_is : state.heap ≡ s.heap
     pub old_is : state.old ≡ s.old
     pub at_is : state.at ≡ s.at
@@ -137,7 +138,7 @@ module _ (means : Meaning) (world : World) where
     pub positive : Positive (run.amount c.holdings (run.At (at_field k f)))
     pub exposed : Exposed i at code (on term state)
 
-  heap_after_facts : (ts : List Term) (s : rules.State) → (rules.with_facts ts s).heap ≡ s.heap
+  pub heap_after_facts : (ts : List Term) (s : rules.State) → (rules.with_facts ts s).heap ≡ s.heap
   heap_after_facts [] s = refl
   heap_after_facts (t ∷ ts) s = heap_after_facts ts (rules.with_fact t s) ∙ heap_after_fact t s
     where
@@ -148,7 +149,7 @@ module _ (means : Meaning) (world : World) where
           go true = refl
           go false = refl
 
-  old_after_facts : (ts : List Term) (s : rules.State) → (rules.with_facts ts s).old ≡ s.old
+  pub old_after_facts : (ts : List Term) (s : rules.State) → (rules.with_facts ts s).old ≡ s.old
   old_after_facts [] s = refl
   old_after_facts (t ∷ ts) s = old_after_facts ts (rules.with_fact t s) ∙ go (rules.is_known t s)
     where
@@ -156,7 +157,7 @@ module _ (means : Meaning) (world : World) where
       go true = refl
       go false = refl
 
-  at_after_facts : (ts : List Term) (s : rules.State) → (rules.with_facts ts s).at ≡ s.at
+  pub at_after_facts : (ts : List Term) (s : rules.State) → (rules.with_facts ts s).at ≡ s.at
   at_after_facts [] s = refl
   at_after_facts (t ∷ ts) s = at_after_facts ts (rules.with_fact t s) ∙ go (rules.is_known t s)
     where
@@ -224,6 +225,7 @@ module _ (means : Meaning) (world : World) where
             record {
               state = with_value r u cs s';
               term = u;
+              later = subst (λ m. m ≤ (with_value r u cs s').next) next_is (subst (λ m. s'.next ≤ m) (sym after) le);
               heap_is = heap_after_facts (value_facts r u cs) s2 ∙ heap_is;
               old_is = old_after_facts (value_facts r u cs) s2 ∙ old_is;
               at_is = at_after_facts (value_facts r u cs) s2 ∙ at_is;
@@ -261,6 +263,7 @@ module _ (means : Meaning) (world : World) where
             inr record {
               state = s;
               term = d.chunk.value;
+              later = le_refl _;
               heap_is = refl;
               old_is = refl;
               at_is = refl;

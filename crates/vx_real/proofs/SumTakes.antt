@@ -74,15 +74,15 @@ module _ (means : Meaning) (i : Interpretation) where
           }
 
   -- What a heap has where one chunk's amount is another.
-  held_out : (front : rules.Heap) (c : rules.Chunk) (back : rules.Heap) (l : run.Resource) → Le (held i (front ++ (c ∷ back)) l) (sum (own i c l) (held i (front ++ back) l))
+  pub held_out : (front : rules.Heap) (c : rules.Chunk) (back : rules.Heap) (l : run.Resource) → Le (held i (front ++ (c ∷ back)) l) (sum (own i c l) (held i (front ++ back) l))
   held_out [] c back l = le-refl _
   held_out (d ∷ front) c back l = le-trans (add-left (own i d l) (held_out front c back l)) (add-swap (own i d l) (own i c l) (held i (front ++ back) l))
 
-  held_in : (front : rules.Heap) (c : rules.Chunk) (back : rules.Heap) (l : run.Resource) → Le (sum (own i c l) (held i (front ++ back) l)) (held i (front ++ (c ∷ back)) l)
+  pub held_in : (front : rules.Heap) (c : rules.Chunk) (back : rules.Heap) (l : run.Resource) → Le (sum (own i c l) (held i (front ++ back) l)) (held i (front ++ (c ∷ back)) l)
   held_in [] c back l = le-refl _
   held_in (d ∷ front) c back l = le-trans (add-swap (own i c l) (own i d l) (held i (front ++ back) l)) (add-left (own i d l) (held_in front c back l))
 
-  less_one : {key : rules.Chunk} {h : rules.Heap} {c : Candidate} (pl : IsPlace key h c) (u : Term) (q : Fraction) → Same (as_fraction (value i u)) (difference (amount_of i c.chunk) q) → (x : run.Resource) →
+  pub less_one : {key : rules.Chunk} {h : rules.Heap} {c : Candidate} (pl : IsPlace key h c) (u : Term) (q : Fraction) → Same (as_fraction (value i u)) (difference (amount_of i c.chunk) q) → (x : run.Resource) →
       Le (held i h x) (sum (cond (run.same_resource x (resource_of i c.chunk)) q none) (held i (slice_set h c.number (record c.chunk { amount = u })) x))
   less_one {h = h} {c = c} pl u q s x =
       le-trans (le-is (ap (λ (y : rules.Heap). held i y x) pl.is))

@@ -1,5 +1,4 @@
--- The law of real failures, as it is stated: where the last reply was a sat and right, some run of the method fails at the place that is told.
--- What is proved of it so far is in src/lib.rt and proofs/; the law itself is not.
+-- The law of real failures: where the last reply was a sat and right, some run of the method fails at the place that is told.
 use Rattle.std.specs.Prelude.{◌≡◌, List, [], ◌∷◌, Some, ⊤}
 use Rattle.vx_ast.specs.declared.Place.{Place}
 use Rattle.vx_ast.specs.Syntax.{Name, Program, Kind, IsMethod, Method, member_named}
@@ -13,8 +12,8 @@ use Rattle.vx_rules.specs.Members.{method_tree}
 use Rattle.vx_types.specs.Typing.{IsTypedMethod}
 use Rattle.vx_types.specs.FieldLanguage.{IsFieldMethod}
 use Rattle.vx_types.specs.CallLanguage.{IsCallingMember}
-use Rattle.vx_whole.specs.Premises.{IsTypedProgram}
-use Rattle.vx_whole.specs.Closure.{InClosure}
+use Rattle.vx_types.specs.Premises.{IsTypedProgram}
+use Rattle.vx_types.specs.Closure.{InClosure}
 
 -- a sat is right where some interpretation makes the path and the negated condition true
 abbrev pub IsPossible : Question → Reply → Type 0
@@ -33,7 +32,7 @@ abbrev pub FailsRightly : Program → Method → List Reply → Code → Place �
 FailsRightly p m replies code at =
     ((walk (method_tree p m) replies).ending ≡ Failed at code Sat) × LastIsPossible (walk (method_tree p m) replies).answered
 
--- of methods of the language of fields, each by itself; not proved
+-- of methods of the language of fields, each by itself
 abbrev pub RealFieldLaw : Type 0
 RealFieldLaw =
     (p : Program) (m : Method) (replies : List Reply) (code : Code) (at : Place) →
@@ -43,7 +42,7 @@ RealFieldLaw =
 abbrev pub IsInFieldFragment : Program → Name → Type 0
 IsInFieldFragment p x = (y : Name) (l : Kind) → InClosure p x y → member_named p y ≡ Some l → IsCallingMember l
 
--- of methods of the field fragment, with calls; not proved
+-- of methods of the field fragment, with calls
 abbrev pub RealLaw : Type 0
 RealLaw =
     (p : Program) (x : Name) (m : Method) (replies : List Reply) (code : Code) (at : Place) →
