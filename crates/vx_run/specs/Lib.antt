@@ -1,0 +1,13 @@
+pub mod Draws
+pub mod Going
+pub mod Widths
+pub mod Evaluated
+pub mod Given
+pub mod Fresh
+pub mod Whole
+pub mod Drawn
+pub mod Views
+pub mod Pending
+pub mod Supplies
+pub mod Means
+pub mod Stores
