@@ -7,7 +7,8 @@ It prints the longest chain and its length, and then each line of MAP that disag
 
 - each crate of crates.txt has one line in MAP, and MAP has no line of another crate;
 - each crate that a line names under "Stands on" is one that its crate stands on, itself or through others;
-- each crate that crates.txt lists for it is named there, or stands below one that is.
+- each crate that crates.txt lists for it is named there, or stands below one that is;
+- the crates stand in the same order, under the same headings (`# Syntax` there, `## Syntax` in MAP).
 
 The status is 0 where they agree, else 1.
 """
@@ -42,6 +43,30 @@ def read_map(path):
             if inside and line.startswith("| `"):
                 _, heads, named, *_ = line.split("|")
                 yield number, NAME.findall(heads), NAME.findall(named)
+
+
+def read_order(path, heading):
+    """The headings and crates of a file in their order: lines that begin with `heading` or a crate's name, as `NAME:` or as MAP's tables have it."""
+    order = []
+    with open(path, encoding="utf-8") as lines:
+        for line in lines:
+            if line.startswith(heading + " "):
+                order.append(line[len(heading) + 1:].strip())
+            elif found := re.match(r"(?:\| `)?(\w+)(?:` \||:)", line):
+                order.append(found[1])
+    return order
+
+
+def first_difference(crates):
+    """The first heading or crate that stands at another place in MAP than in crates.txt; the first line of each is its own."""
+    listed = read_order(CRATES, "#")[1:]
+    mapped = [name for name in read_order(MAP, "##") if name in crates or name in listed]
+    for name, other in zip(listed, mapped):
+        if name != other:
+            yield f"{MAP}: {other} stands where {CRATES} has {name}"
+            return
+    if len(listed) != len(mapped):
+        yield f"{MAP} has {len(mapped)} headings and crates, {CRATES} {len(listed)}"
 
 
 def all_below(crates):
@@ -92,7 +117,7 @@ def main():
     crates = read_crates(CRATES)
     chain = longest_chain(crates)
     print(f"{len(chain)} crates: {' > '.join(chain)}")
-    wrong = list(disagreements(crates, read_map(MAP)))
+    wrong = list(disagreements(crates, read_map(MAP))) + list(first_difference(crates))
     print("\n".join(wrong) if wrong else f"{MAP} agrees with {CRATES}")
     return 1 if wrong else 0
 

@@ -5,7 +5,7 @@ use Rattle.vx_terms.specs.Sorts.{BoolSort, same_sort}
 use Rattle.vx_terms.specs.Terms.{Term, sort_of}
 use Rattle.cs_certificate.specs.Terms.{numbered}
 use Rattle.cs_certificate.specs.Certificate.{Stack}
-use Rattle.cs_eager.specs.Answers.{IsPlain}
+use Rattle.cs_ground.specs.Answers.{IsPlain}
 use Rattle.cs_answer.specs.declared.answer.Answer.{Answer}
 use Rattle.cs_answer.specs.declared.answer.Answer.TheVariants as answers
 

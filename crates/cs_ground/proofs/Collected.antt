@@ -22,7 +22,7 @@ use Rattle.cs_ground.specs.Ground.{AreAtoms}
 use Rattle.cs_ground.specs.Steps.{bare, IsClausal, Collects, OfFirst, IsRowOf, IsOf, IsInputOf, IsChainOfOne, IsCongruenceOfOne, IsOfAlias, IsOfAliases, IsWanted, an_input, of_term, a_chain, a_congruence, of_alias}
 use Rattle.cs_ground.specs.declared.aliases.Alias.{Alias}
 use Rattle.cs_ground.proofs.Lists.{some_is, one_more, at_within, each_at, each_last, all_at}
-use Rattle.cs_ground.proofs.Atoms.{atom, test_atom, named_atom, row_atoms, chain_atoms, congruence_atoms}
+use Rattle.cs_ground.proofs.GroundAtoms.{atom, test_atom, named_atom, row_atoms, chain_atoms, congruence_atoms}
 use Rattle.cs_ground.proofs.Rows.{no_more_rows}
 
 -- ---- the steps that are taken

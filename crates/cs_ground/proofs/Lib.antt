@@ -4,7 +4,19 @@ pub mod Paired
 pub mod Naming
 pub mod Chosen
 pub mod Rows
-pub mod Atoms
+pub mod GroundAtoms
 pub mod Collected
 pub mod Turned
 pub mod Whole
+pub mod Members
+pub mod SatisfiedSides
+pub mod Sorts
+pub mod Equalities
+pub mod Satisfied
+pub mod Numbers
+pub mod Fed
+pub mod Replayed
+pub mod Learned
+pub mod Solved
+pub mod Begun
+mod Unset

@@ -5,7 +5,7 @@ use crate::told::put_refusal;
 use cs_proof::{Checker, Stack};
 use cs_reader::{Certificate, Refusal};
 use std::alloc::{AllocError, Global};
-use vx_lines::Text;
+use vx_table::Text;
 
 fn checker_of(
     alloc: Global,

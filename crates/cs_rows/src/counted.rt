@@ -2,7 +2,7 @@
 
 use cs_index::Index;
 use cs_meter::Meter;
-use vx_lines::Text;
+use vx_table::Text;
 
 /// The numbers under a key; false: it is no key.
 pub fn put_numbers_under(index: &Index, key: &str, text: &mut Text) -> bool {

@@ -7,8 +7,8 @@ use crate::outside::{Outside, Turn};
 use std::alloc::{AllocError, Global};
 use vx_dialogue::{Base, Dialogue, Talk};
 use vx_ends::{Bytes, Piece, ScriptLink};
-use vx_lines::Text;
 use vx_smt_meaning::{Declared, Reply};
+use vx_table::Text;
 
 fn put_kept(word: &str, kept: &Bytes, text: &mut Text) {
     text.put(word);

@@ -3,7 +3,7 @@
 use crate::outside::{Call, Outside};
 use std::alloc::{AllocError, Global};
 use vx_ends::{Link, LinkFault, Parts, ReadyLink, ScriptSpawner, Spawner, StartFault};
-use vx_lines::Text;
+use vx_table::Text;
 
 /// Bytes as text, with their number; a line feed at the end isn't written.
 pub fn put_counted(bytes: &[u8], text: &mut Text) {

@@ -9,7 +9,7 @@ use vx_ends::{
     Bytes, Files, LoadFault, MemFiles, MemSink, MemSource, MoreFault, NamedText, PutFault,
     RoundRobin, Sink, Source, TurnList, Turns,
 };
-use vx_lines::Text;
+use vx_table::Text;
 
 // A number, and the text behind it.
 fn counted(rest: &str) -> Option<(usize, &str)> {

@@ -2,8 +2,8 @@
 
 use std::alloc::{AllocError, Global};
 use std::rc::Rc;
-use vx_lines::Text;
 use vx_smt_meaning::Declared;
+use vx_table::Text;
 use vx_terms::{Operator, Sort, Symbol};
 
 fn sort_of(alloc: Global, word: &str) -> Result<Sort, AllocError> {

@@ -10,8 +10,8 @@ use cs_reader::{Certificate, SymbolIndex, Symbols};
 use cs_table::{Head, Node, Stop, Table};
 use std::alloc::{AllocError, Global};
 use std::rc::Rc;
-use vx_lines::Text;
 use vx_smt_meaning::Declared;
+use vx_table::Text;
 use vx_terms::Term;
 
 // What is numbered, and the numbers of the assertions.

@@ -7,10 +7,10 @@ use cs_reader::{Certificate, ReadFault, Refusal, Scope, Stop, SymbolIndex, Symbo
 use cs_sorts::{is_live, sort_in};
 use std::alloc::{AllocError, Global};
 use std::rc::Rc;
-use vx_lines::Text;
 use vx_sexp::{Sexp, SexpFault, read};
 use vx_smt_meaning::{Command, Declared};
 use vx_smt_text::write;
+use vx_table::Text;
 use vx_terms::{Sort, Term};
 
 // The one s-expression of a text; None: it is another text.

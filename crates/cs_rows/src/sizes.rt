@@ -1,10 +1,10 @@
 //! How long an s-expression is, and a declaration that takes as many sorts as it has tokens.
 
 use std::alloc::{AllocError, Global};
-use vx_lines::Text;
 use vx_sexp::{Sexp, SexpFault, read};
 use vx_smt_meaning::{Command, Declared};
 use vx_smt_text::write;
+use vx_table::Text;
 use vx_terms::{Sort, Symbol};
 
 // A declaration that takes one sort for each token.

@@ -11,8 +11,8 @@ use crate::reading::{put_read, put_sorted, put_spelled};
 use crate::row::Row;
 use crate::sizes::put_sizes;
 use std::alloc::{AllocError, Global};
-use vx_lines::Text;
 use vx_smt_meaning::Declared;
+use vx_table::Text;
 
 // Answers a question; false: the line asks nothing.
 fn answer(

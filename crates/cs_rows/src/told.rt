@@ -2,7 +2,7 @@
 
 use cs_reader::Refusal;
 use vx_frac::{Frac, Op};
-use vx_lines::Text;
+use vx_table::Text;
 
 /// A fraction in lowest terms: a numerator, and the denominator where it isn't 1.
 pub fn put_fraction(text: &mut Text, of: Frac) {

@@ -3,8 +3,8 @@
 use crate::told::put_fraction;
 use cs_reader::{Literal, Step};
 use vx_frac::Frac;
-use vx_lines::Text;
 use vx_sexp::{Bytes, Token};
+use vx_table::Text;
 
 fn put_numbers(text: &mut Text, numbers: &[u128]) {
     for number in numbers {

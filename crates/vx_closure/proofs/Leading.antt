@@ -9,8 +9,8 @@ use Rattle.vx_ast.specs.Syntax.{Name, Program, Member}
 use Rattle.vx_graph.specs.Listed.{is_in}
 use Rattle.vx_graph.specs.Reach.{Rows, Reaches, at_once, further as further_on, leads}
 use Rattle.vx_resolved.specs.Numbers.{number_named}
-use Rattle.vx_whole.specs.Closure.{mentioned_by_kind, InClosure, itself, further}
-use Rattle.vx_whole.specs.Closure as closure
+use Rattle.vx_types.specs.Closure.{mentioned_by_kind, InClosure, itself, further}
+use Rattle.vx_types.specs.Closure as closure
 use Rattle.vx_closure.specs.Leads.{LeadsTo, HasDistinctNames}
 use Rattle.vx_closure.specs.Mentioners.{is_number, are_of, names_by_member, mentions, AreMentioners}
 use Rattle.vx_closure.proofs.Numbers.{found, not_found}

@@ -10,7 +10,7 @@ use Rattle.vx_ast.specs.declared.MemberId.{MemberId}
 use Rattle.vx_ast.specs.Syntax.{Name, Program, Member}
 use Rattle.vx_graph.specs.Listed.{is_in}
 use Rattle.vx_graph.specs.Reach.{Rows, InRange, leads}
-use Rattle.vx_whole.specs.Closure.{mentioned_by_kind}
+use Rattle.vx_types.specs.Closure.{mentioned_by_kind}
 use Rattle.vx_closure.specs.Known.{known}
 use Rattle.vx_closure.specs.Mentioners.{are_of, names_by_member, mentions, AreMentioners}
 

@@ -3,7 +3,7 @@
 use Rattle.std.specs.Prelude.{◌≡◌, ℕ, Some, slice_get}
 use Rattle.vx_ast.specs.Syntax.{Program, Member}
 use Rattle.vx_resolved.specs.Numbers.{number_named}
-use Rattle.vx_whole.specs.Closure.{InClosure}
+use Rattle.vx_types.specs.Closure.{InClosure}
 
 abbrev pub LeadsTo : Program → ℕ → ℕ → Type 0
 LeadsTo p a b = (x y : Member) × (slice_get p a ≡ Some x) × (slice_get p b ≡ Some y) × InClosure p x.name y.name

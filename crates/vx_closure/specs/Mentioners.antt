@@ -4,7 +4,7 @@ use Rattle.std.specs.Prelude.{◌≡◌, ℕ, Bool, false, ◌||◌, nat_eq, len
 use Rattle.vx_ast.specs.Syntax.{Name, Program, Member}
 use Rattle.vx_resolved.specs.Numbers.{number_named}
 use Rattle.vx_graph.specs.Reach.{Rows, leads}
-use Rattle.vx_whole.specs.Closure.{mentioned_by_kind}
+use Rattle.vx_types.specs.Closure.{mentioned_by_kind}
 
 abbrev pub is_number : Option ℕ → ℕ → Bool
 is_number None b = false

@@ -8,7 +8,7 @@ ghost use Rattle.vx_closure.specs.Known.{Adds};
 ghost use Rattle.vx_graph.specs.Listed.{is_in};
 ghost use Rattle.vx_resolved.specs.Resolved as resolved;
 ghost use Rattle.vx_resolved.specs.Settled.{settled};
-ghost use Rattle.vx_whole.specs.Closure.{mentioned_by_all, mentioned_by_contract, mentioned_by_stmt, mentioned_by_block, mentioned_by_body, mentioned_by_kind, mentioned_by_measure};
+ghost use Rattle.vx_types.specs.Closure.{mentioned_by_all, mentioned_by_contract, mentioned_by_stmt, mentioned_by_block, mentioned_by_body, mentioned_by_kind, mentioned_by_measure};
 
 use std::alloc::AllocError;
 use std::rc::Rc;

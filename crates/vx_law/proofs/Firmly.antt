@@ -12,9 +12,9 @@ use Rattle.vx_meaning.specs.Consistent.{IsConsistent}
 use Rattle.vx_meaning.specs.Fits.{Checked, ◌>>=◌, or_fail, Deeper, choose, connected, location_of, readable, fit, fit_all, deeper, Fits, Eventually}
 use Rattle.vx_meaning.specs.Fails.{Application, Evaluates, applied_to, of_right, chosen, evaluated, evaluated_in}
 use Rattle.vx_types.specs.Typing.{Scope, type_in, HasType, number, truth, nulls, part, variable, nots, operates, scales, divides, connects, chooses, reads, olds, applies, unfoldings, HaveTypes, no_more, more}
-use Rattle.vx_whole.specs.Premises.{IsTypedProgram}
-use Rattle.vx_whole.specs.Closure.{InClosure}
-use Rattle.vx_whole.specs.Now.{IsOfNow, AreOfNow}
+use Rattle.vx_types.specs.Premises.{IsTypedProgram}
+use Rattle.vx_types.specs.Closure.{InClosure}
+use Rattle.vx_types.specs.Now.{IsOfNow, AreOfNow}
 use Rattle.vx_sound_preds.specs.Covered.{IsStocked}
 use Rattle.vx_sound_preds.proofs.Fitting.{undo, not_failed, some_is}
 use Rattle.vx_sound_preds.proofs.Holding.{HoldsInstances, consistent}
@@ -26,8 +26,8 @@ use Rattle.vx_sound_funcs.proofs.Fits.{next, fit_more, fit_all_more}
 use Rattle.vx_sound.proofs.Fuel.{value_more, applications_later}
 use Rattle.vx_sound_funcs.proofs.Steps.{nothing_some}
 use Rattle.vx_live.proofs.Speaks.{Speaks, AllSpeak}
-use Rattle.vx_told.specs.Walks.{KeepsAt}
-use Rattle.vx_told.specs.Allowed.{IsAllowedWhereTaken}
+use Rattle.vx_law.specs.Walks.{KeepsAt}
+use Rattle.vx_law.specs.Allowed.{IsAllowedWhereTaken}
 use Rattle.vx_sound_preds.proofs.TypedValues.{have_types, applications_typed}
 use Rattle.vx_sound_funcs.proofs.Stocked.{stocked}
 use Rattle.vx_sound_funcs.proofs.Grows.{TakenBy, applied_by, deeper_more, firm_upto, takes_from}

@@ -18,17 +18,17 @@ use Rattle.vx_rules.specs.Groups.{leads_to, reaches_by, is_in_group}
 use Rattle.vx_rules.proofs.Names.{same_name_is}
 use Rattle.vx_terms.proofs.Same.{and_parts}
 use Rattle.vx_types.specs.Typing.{Scope, HasType, number, truth, nulls, part, variable, nots, operates, scales, divides, connects, chooses, reads, olds, applies, unfoldings, HaveTypes, no_more, more}
-use Rattle.vx_whole.specs.Premises.{IsTypedProgram}
-use Rattle.vx_whole.specs.Closure.{InClosure}
+use Rattle.vx_types.specs.Premises.{IsTypedProgram}
+use Rattle.vx_types.specs.Closure.{InClosure}
 use Rattle.vx_sound_preds.proofs.Fitting.{some_is}
 use Rattle.vx_sound_preds.proofs.Typed.{on_left, on_right}
 use Rattle.vx_sound_funcs.specs.Firm.{GoodFunctions}
 use Rattle.vx_sound.proofs.Conjoined.{conjoined_typed}
 use Rattle.vx_sound_preds.proofs.FunctionWalks.{conjoined_mentions}
-use Rattle.vx_told.specs.Walks.{FunctionsKeep, Keeps, KeepsAt}
-use Rattle.vx_told.specs.Allowed.{LowerKeep, TakenIsAllowed}
-use Rattle.vx_told.specs.Measures.{IsBelow, lower_group, lesser_measure}
-use Rattle.vx_told.proofs.Measures.{measures_induce, groups_induce}
+use Rattle.vx_law.specs.Walks.{FunctionsKeep, Keeps, KeepsAt}
+use Rattle.vx_law.specs.Allowed.{LowerKeep, TakenIsAllowed}
+use Rattle.vx_law.specs.Measures.{IsBelow, lower_group, lesser_measure}
+use Rattle.vx_law.proofs.Measures.{measures_induce, groups_induce}
 use Rattle.vx_sound_preds.proofs.TypedValues.{have_types, applications_typed}
 use Rattle.vx_law.proofs.Evaluated.{In}
 use Rattle.vx_law.proofs.Firmly.{AreTyped}

@@ -5,15 +5,15 @@ use Rattle.vx_ast.specs.Syntax.{Name, Program, Kind, Function, function_named, m
 use Rattle.vx_ast.specs.Mentions.{mentioned_by_function}
 use Rattle.vx_ast.specs.Apart.{Stands, entered_by}
 use Rattle.vx_meaning.specs.Group.{Reaches}
-use Rattle.vx_whole.specs.Premises.{IsTypedProgram}
-use Rattle.vx_whole.specs.Closure.{mentioned_by_measure, mentioned_by_kind, InClosure, further}
+use Rattle.vx_types.specs.Premises.{IsTypedProgram}
+use Rattle.vx_types.specs.Closure.{mentioned_by_measure, mentioned_by_kind, InClosure, further}
 use Rattle.vx_sound_preds.proofs.Typed.{on_left}
 use Rattle.vx_sound_preds.proofs.Mentioning.{function_member}
 use Rattle.vx_sound_funcs.specs.Told.{precondition_of}
-use Rattle.vx_told.specs.Allowed.{LowerKeep}
-use Rattle.vx_told.proofs.Groups.{contains}
-use Rattle.vx_told.proofs.Below.{asked_mentioned, asked_lower}
-use Rattle.vx_told.proofs.Measures.{reached}
+use Rattle.vx_law.specs.Allowed.{LowerKeep}
+use Rattle.vx_law.proofs.Groups.{contains}
+use Rattle.vx_law.proofs.Below.{asked_mentioned, asked_lower}
+use Rattle.vx_law.proofs.Measures.{reached}
 
 module _ (p : Program) (x : Name) where
   -- x leads to what its functions mention

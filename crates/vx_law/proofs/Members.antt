@@ -4,8 +4,8 @@ use Rattle.vx_ast.specs.Syntax.{Name, Program, Kind, IsField, IsPredicate, IsFun
 use Rattle.vx_smt_meaning.specs.declared.reply.Reply.{Reply}
 use Rattle.vx_meaning.specs.States.{State}
 use Rattle.vx_meaning.specs.Fails.{Fails, FunctionFails, FunctionStarts}
-use Rattle.vx_whole.specs.Premises.{IsTypedProgram}
-use Rattle.vx_whole.specs.Closure.{InClosure, itself}
+use Rattle.vx_types.specs.Premises.{IsTypedProgram}
+use Rattle.vx_types.specs.Closure.{InClosure, itself}
 use Rattle.vx_sound.proofs.Marks.{Marks}
 use Rattle.vx_sound_preds.specs.Covered.{PredicatesPass}
 use Rattle.vx_sound_preds.proofs.Speaking.{predicate_member, good, no_perm, speak}
@@ -17,10 +17,10 @@ use Rattle.vx_sound_preds.proofs.Functions.{IsMeasureOf, in_body_of}
 use Rattle.vx_sound_preds.proofs.FunctionWalks.{function_sound_by}
 use Rattle.vx_sound_funcs.specs.Firm.{GoodFunctions}
 use Rattle.vx_sound_funcs.proofs.TypedFunctions.{good_functions}
-use Rattle.vx_told.specs.Means.{Means}
-use Rattle.vx_told.specs.Walks.{FunctionsPass, FunctionsKeep}
-use Rattle.vx_told.specs.Allowed.{LowerKeep, IsAllowedWhereTaken, TakenIsAllowed}
-use Rattle.vx_told.proofs.Groups.{groups_agree}
+use Rattle.vx_law.specs.Means.{Means}
+use Rattle.vx_law.specs.Walks.{FunctionsPass, FunctionsKeep}
+use Rattle.vx_law.specs.Allowed.{LowerKeep, IsAllowedWhereTaken, TakenIsAllowed}
+use Rattle.vx_law.proofs.Groups.{groups_agree}
 use Rattle.vx_law.specs.Law.{MembersAreSound}
 use Rattle.vx_law.proofs.Tells.{applies_go}
 use Rattle.vx_law.proofs.Methods.{method_sound}

@@ -5,18 +5,18 @@ use Rattle.vx_ast.specs.declared.Place.{Place}
 use Rattle.vx_ast.specs.Syntax.{Name, Program, IsMethod, Method, member_named}
 use Rattle.vx_smt_meaning.specs.declared.reply.Reply.{Reply}
 use Rattle.vx_meaning.specs.Fails.{MethodFails}
-use Rattle.vx_whole.specs.Premises.{IsTypedProgram}
-use Rattle.vx_whole.specs.Closure.{InClosure}
+use Rattle.vx_types.specs.Premises.{IsTypedProgram}
+use Rattle.vx_types.specs.Closure.{InClosure}
 use Rattle.vx_sound.specs.Law.{Passes}
 use Rattle.vx_sound.proofs.Marks.{Unmarked}
 use Rattle.vx_sound_preds.specs.Covered.{PredicatesPass}
 use Rattle.vx_sound_preds.proofs.Holding.{Applying}
 use Rattle.vx_sound_preds.proofs.Soundness.{method_sound_by}
 use Rattle.vx_sound_funcs.specs.Firm.{GoodFunctions}
-use Rattle.vx_told.specs.Means.{Means}
-use Rattle.vx_told.specs.Walks.{FunctionsKeep}
-use Rattle.vx_told.specs.Allowed.{TakenIsAllowed}
-use Rattle.vx_told.proofs.Below.{asked_mentioned}
+use Rattle.vx_law.specs.Means.{Means}
+use Rattle.vx_law.specs.Walks.{FunctionsKeep}
+use Rattle.vx_law.specs.Allowed.{TakenIsAllowed}
+use Rattle.vx_law.proofs.Below.{asked_mentioned}
 use Rattle.vx_law.proofs.Lower.{leads_on}
 use Rattle.vx_law.proofs.Tells.{applies_go}
 

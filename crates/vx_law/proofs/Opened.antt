@@ -8,8 +8,8 @@ use Rattle.vx_meaning.specs.States.{State, Instance, Folded, amount, lost, bind,
 use Rattle.vx_meaning.specs.Flatten.{bare}
 use Rattle.vx_meaning.specs.Fits.{◌>>=◌, to_option, Deeper, has_instance, add, exchange, deeper}
 use Rattle.vx_terms.proofs.Same.{and_parts}
-use Rattle.vx_whole.specs.Premises.{IsTypedProgram}
-use Rattle.vx_whole.specs.Closure.{InClosure}
+use Rattle.vx_types.specs.Premises.{IsTypedProgram}
+use Rattle.vx_types.specs.Closure.{InClosure}
 use Rattle.vx_amounts.proofs.Amounts.{Le, Positive, positive-le}
 use Rattle.vx_amounts.proofs.Products.{positive_le}
 use Rattle.vx_sound.proofs.World.{IsTypedInstance}

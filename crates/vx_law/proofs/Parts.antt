@@ -7,9 +7,9 @@ use Rattle.vx_ast.specs.Syntax as syntax
 use Rattle.vx_ast.specs.Mentions.{mentioned, mentioned_in}
 use Rattle.vx_ast.specs.Apart.{Stands, entered_by}
 use Rattle.vx_types.specs.Typing.{HasType, HaveTypes, IsTyped}
-use Rattle.vx_whole.specs.Premises.{IsTypedProgram}
-use Rattle.vx_whole.specs.Closure.{InClosure}
-use Rattle.vx_whole.specs.Now.{IsOfNow, AreOfNow, SaysNow}
+use Rattle.vx_types.specs.Premises.{IsTypedProgram}
+use Rattle.vx_types.specs.Closure.{InClosure}
+use Rattle.vx_types.specs.Now.{IsOfNow, AreOfNow, SaysNow}
 use Rattle.vx_meaning.specs.Values.{Value}
 use Rattle.vx_meaning.specs.States as run
 use Rattle.vx_meaning.specs.States.{State, Heap, bind}
@@ -17,8 +17,8 @@ use Rattle.vx_meaning.specs.Fails.{Application, evaluated}
 use Rattle.vx_sound_preds.proofs.Typed.{on_left, on_right}
 use Rattle.vx_sound_funcs.specs.Laws.{EachPart, IsFirmAt, AreFirmAt}
 use Rattle.vx_live.proofs.Speaks.{Speaks, AllSpeak, SpeaksOf}
-use Rattle.vx_told.specs.Walks.{KeepsAt}
-use Rattle.vx_told.specs.Allowed.{IsAllowedWhereTaken}
+use Rattle.vx_law.specs.Walks.{KeepsAt}
+use Rattle.vx_law.specs.Allowed.{IsAllowedWhereTaken}
 use Rattle.vx_law.proofs.Firmly.{Kept, fits_firmly, all_fit_firmly}
 use Rattle.vx_law.proofs.Promised.{bound_typed}
 use Rattle.vx_law.proofs.FromBelow.{in_contained, evaluated_mentioned, all_mentioned}

@@ -11,8 +11,8 @@ use Rattle.vx_meaning.specs.Consistent.{IsConsistent}
 use Rattle.vx_meaning.specs.Fits.{Fits}
 use Rattle.vx_meaning.specs.Fails.{Application, Evaluates, FunctionStarts, with_result}
 use Rattle.vx_types.specs.Typing.{Scope, more, no_more}
-use Rattle.vx_whole.specs.Premises.{IsTypedProgram}
-use Rattle.vx_whole.specs.Closure.{InClosure}
+use Rattle.vx_types.specs.Premises.{IsTypedProgram}
+use Rattle.vx_types.specs.Closure.{InClosure}
 use Rattle.vx_sound_preds.specs.Covered.{IsStocked}
 use Rattle.vx_sound_preds.proofs.Fitting.{step}
 use Rattle.vx_sound_preds.proofs.Types.{found_type}
@@ -21,8 +21,8 @@ use Rattle.vx_sound_preds.proofs.Speaking.{good}
 use Rattle.vx_sound_funcs.specs.Firm.{GoodFunctions}
 use Rattle.vx_sound_funcs.proofs.TypedFunctions.{functions_speak_now}
 use Rattle.vx_sound.proofs.Conjoined.{conjoined_typed}
-use Rattle.vx_told.specs.Walks.{Keeps}
-use Rattle.vx_told.proofs.Programs.{spoken}
+use Rattle.vx_law.specs.Walks.{Keeps}
+use Rattle.vx_law.proofs.Programs.{spoken}
 use Rattle.vx_sound_preds.proofs.TypedValues.{have_types, applications_typed}
 use Rattle.vx_sound_funcs.proofs.Stocked.{stocked}
 use Rattle.vx_law.proofs.Deeper.{fits_value}

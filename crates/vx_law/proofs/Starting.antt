@@ -1,8 +1,8 @@
 -- Where a function starts: what is held there can be, and its variables have values of their types.
 use Rattle.std.proofs.Common.{◌≡◌, true, List, [], Some, sym, ◌∙◌, ap, subst}
 use Rattle.vx_ast.specs.Syntax.{Name, Program, Function, function_named}
-use Rattle.vx_whole.specs.Premises.{IsTypedProgram}
-use Rattle.vx_whole.specs.Closure.{InClosure}
+use Rattle.vx_types.specs.Premises.{IsTypedProgram}
+use Rattle.vx_types.specs.Closure.{InClosure}
 use Rattle.vx_meaning.specs.Values.{Value}
 use Rattle.vx_meaning.specs.States as run
 use Rattle.vx_meaning.specs.States.{State, bind, from_now}

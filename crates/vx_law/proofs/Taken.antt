@@ -8,8 +8,8 @@ use Rattle.vx_meaning.specs.States as run
 use Rattle.vx_meaning.specs.States.{Heap, bind}
 use Rattle.vx_meaning.specs.Group.{Reaches}
 use Rattle.vx_rules.specs.Members.{depth, rules as member_rules}
-use Rattle.vx_whole.specs.Premises.{IsTypedProgram}
-use Rattle.vx_whole.specs.Closure.{InClosure}
+use Rattle.vx_types.specs.Premises.{IsTypedProgram}
+use Rattle.vx_types.specs.Closure.{InClosure}
 use Rattle.vx_elements.proofs.Scopes.{joined_typed}
 use Rattle.vx_sound.proofs.Evaluate.{PartsGo}
 use Rattle.vx_sound_preds.specs.Covered.{PredicatesPass}
@@ -21,13 +21,13 @@ use Rattle.vx_sound_funcs.specs.Told.{precondition_of}
 use Rattle.vx_sound_funcs.specs.Firm.{GoodFunctions}
 use Rattle.vx_sound_funcs.specs.Laws.{EachPart, IsFirmAt, AreFirmAt}
 use Rattle.vx_sound_funcs.proofs.TypedFunctions.{requirements_now}
-use Rattle.vx_told.specs.Means.{Means}
-use Rattle.vx_told.specs.Walks.{FunctionsPass}
-use Rattle.vx_told.specs.Allowed.{IsAllowedWhereTaken, LowerKeep, TakenIsAllowed}
-use Rattle.vx_told.proofs.Allowed.{allowed_where_taken}
-use Rattle.vx_told.proofs.Measures.{groups_induce}
-use Rattle.vx_told.proofs.Programs.{spoken}
-use Rattle.vx_told.proofs.Started.{world}
+use Rattle.vx_law.specs.Means.{Means}
+use Rattle.vx_law.specs.Walks.{FunctionsPass}
+use Rattle.vx_law.specs.Allowed.{IsAllowedWhereTaken, LowerKeep, TakenIsAllowed}
+use Rattle.vx_law.proofs.Allowed.{allowed_where_taken}
+use Rattle.vx_law.proofs.Measures.{groups_induce}
+use Rattle.vx_law.proofs.Programs.{spoken}
+use Rattle.vx_law.proofs.Started.{world}
 use Rattle.vx_law.proofs.Lower.{IsLower, keep_on, asked_is_lower, lower_closed}
 use Rattle.vx_law.proofs.Parts.{parts_firm}
 use Rattle.vx_law.proofs.Tells.{applies_go}

@@ -13,8 +13,8 @@ use Rattle.vx_rules.specs.States as rules
 use Rattle.vx_rules.specs.States.{sort_of_type}
 use Rattle.vx_rules.specs.Rules.{Giving, outer, with_equations}
 use Rattle.vx_types.specs.Typing.{Scope}
-use Rattle.vx_whole.specs.Premises.{IsTypedProgram}
-use Rattle.vx_whole.specs.Closure.{InClosure}
+use Rattle.vx_types.specs.Premises.{IsTypedProgram}
+use Rattle.vx_types.specs.Closure.{InClosure}
 use Rattle.vx_elements.proofs.Built.{Good}
 use Rattle.vx_sound.proofs.World.{World}
 use Rattle.vx_sound.proofs.Passes.{Cleared}
@@ -35,12 +35,12 @@ use Rattle.vx_sound_funcs.specs.Told.{precondition_of}
 use Rattle.vx_sound_funcs.specs.Firm.{GoodFunctions}
 use Rattle.vx_sound_funcs.specs.Laws.{ApplicationsAgree}
 use Rattle.vx_sound_funcs.proofs.Laws.{agree}
-use Rattle.vx_told.specs.Means.{Means}
-use Rattle.vx_told.specs.Walks.{KeepsAt}
-use Rattle.vx_told.specs.Allowed as allowing
-use Rattle.vx_told.specs.Allowed.{IsAllowedWhereTaken}
-use Rattle.vx_told.proofs.Worth.{Worth, written_worth}
-use Rattle.vx_told.proofs.Awake.{Follows, awake_told}
+use Rattle.vx_law.specs.Means.{Means}
+use Rattle.vx_law.specs.Walks.{KeepsAt}
+use Rattle.vx_law.specs.Allowed as allowing
+use Rattle.vx_law.specs.Allowed.{IsAllowedWhereTaken}
+use Rattle.vx_law.proofs.Worth.{Worth, written_worth}
+use Rattle.vx_law.proofs.Awake.{Follows, awake_told}
 use Rattle.vx_law.proofs.Own.{told_there}
 use Rattle.vx_sound_funcs.proofs.Stocked.{stocked}
 

@@ -15,8 +15,8 @@ use Rattle.vx_rules.specs.States as rules
 use Rattle.vx_rules.specs.Groups.{is_in_group}
 use Rattle.vx_rules.specs.Members.{depth, rules as member_rules, tree}
 use Rattle.vx_types.specs.Typing.{Scope}
-use Rattle.vx_whole.specs.Premises.{IsTypedProgram}
-use Rattle.vx_whole.specs.Closure.{InClosure}
+use Rattle.vx_types.specs.Premises.{IsTypedProgram}
+use Rattle.vx_types.specs.Closure.{InClosure}
 use Rattle.vx_sound.proofs.Marks.{Marks}
 use Rattle.vx_sound.proofs.World.{Walked, World}
 use Rattle.vx_sound.proofs.Stands.{OwnStands}
@@ -32,12 +32,12 @@ use Rattle.vx_sound_preds.proofs.Functions.{IsMeasureOf, OwnWalk, in_body_of, ou
 use Rattle.vx_sound_preds.proofs.FunctionWalks.{walkable}
 use Rattle.vx_sound_funcs.specs.Told.{precondition_of}
 use Rattle.vx_sound_funcs.specs.Firm.{GoodFunctions}
-use Rattle.vx_told.specs.Means.{Means}
-use Rattle.vx_told.specs.Walks.{FunctionsPass, FunctionsKeep, KeepsAt}
-use Rattle.vx_told.specs.Allowed.{LowerKeep, IsAllowedWhereTaken}
-use Rattle.vx_told.proofs.Below.{asked_mentioned}
-use Rattle.vx_told.specs.Measures.{IsBelow, lower_group, lesser_measure}
-use Rattle.vx_told.proofs.Groups.{groups_agree}
+use Rattle.vx_law.specs.Means.{Means}
+use Rattle.vx_law.specs.Walks.{FunctionsPass, FunctionsKeep, KeepsAt}
+use Rattle.vx_law.specs.Allowed.{LowerKeep, IsAllowedWhereTaken}
+use Rattle.vx_law.proofs.Below.{asked_mentioned}
+use Rattle.vx_law.specs.Measures.{IsBelow, lower_group, lesser_measure}
+use Rattle.vx_law.proofs.Groups.{groups_agree}
 use Rattle.vx_law.proofs.Tells.{IsAllowed, AllowedKeep, AllowedMeasured, applies_go}
 use Rattle.vx_law.proofs.Measured.{lowers_measure}
 use Rattle.vx_law.proofs.FromBelow.{BelowKeep, Gives, WalksGive, functions_keep}

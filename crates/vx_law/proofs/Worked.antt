@@ -11,8 +11,8 @@ use Rattle.vx_rules.specs.Members.{rules}
 use Rattle.vx_rules.proofs.Names.{same_name_is}
 use Rattle.vx_terms.specs.Interpretations.{Each}
 use Rattle.vx_types.specs.Typing.{IsTypedFunction, IsTypedMethod, number, variable, operates, applies, no_more, more}
-use Rattle.vx_whole.specs.Now.{SpeaksOfNow}
-use Rattle.vx_whole.specs.Premises.{HasConstantAmounts, IsTypedProgram}
+use Rattle.vx_types.specs.Now.{SpeaksOfNow}
+use Rattle.vx_types.specs.Premises.{HasConstantAmounts, IsTypedProgram}
 use Rattle.vx_sound.specs.Examples.{on_line, x, m}
 use Rattle.vx_sound.specs.Law.{Passes}
 use Rattle.vx_law.specs.Examples.{next, adder, relies, counts}

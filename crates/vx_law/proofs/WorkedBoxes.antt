@@ -6,7 +6,7 @@ use Rattle.vx_ast.specs.Apart.{Stands}
 use Rattle.vx_meaning.specs.Fails.{Fails}
 use Rattle.vx_terms.specs.Interpretations.{Each}
 use Rattle.vx_rules.specs.Members.{rules}
-use Rattle.vx_whole.specs.Closure.{InClosure, itself, further, mentions}
+use Rattle.vx_types.specs.Closure.{InClosure, itself, further, mentions}
 use Rattle.vx_sound.specs.Law.{Passes}
 use Rattle.vx_sound_preds.specs.Examples.{P}
 use Rattle.vx_sound_funcs.specs.Examples.{box, get, getter, twice, doubler, boxes}

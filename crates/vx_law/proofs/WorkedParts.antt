@@ -13,8 +13,8 @@ use Rattle.vx_terms.specs.Interpretations.{Interpretation, Tree, TreeElement, as
 use Rattle.vx_rules.specs.Members.{rules}
 use Rattle.vx_rules.proofs.Names.{same_name_is}
 use Rattle.vx_types.specs.Typing.{IsTypedFunction, number, variable, part as amount, operates, chooses, reads, applies, no_more, more}
-use Rattle.vx_whole.specs.Now.{SpeaksOfNow}
-use Rattle.vx_whole.specs.Premises.{HasConstantAmounts, IsTypedProgram}
+use Rattle.vx_types.specs.Now.{SpeaksOfNow}
+use Rattle.vx_types.specs.Premises.{HasConstantAmounts, IsTypedProgram}
 use Rattle.vx_elements.proofs.Truth.{element_equal}
 use Rattle.vx_sound.specs.Law.{Passes}
 use Rattle.vx_sound_preds.specs.Examples.{here, x, f}

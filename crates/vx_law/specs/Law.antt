@@ -3,8 +3,8 @@ use Rattle.std.specs.Prelude.{◌≡◌, List, Some}
 use Rattle.vx_ast.specs.Syntax.{Name, Program, Kind, member_named}
 use Rattle.vx_smt_meaning.specs.declared.reply.Reply.{Reply}
 use Rattle.vx_meaning.specs.Fails.{Fails}
-use Rattle.vx_whole.specs.Premises.{IsTypedProgram}
-use Rattle.vx_whole.specs.Closure.{InClosure}
+use Rattle.vx_types.specs.Premises.{IsTypedProgram}
+use Rattle.vx_types.specs.Closure.{InClosure}
 use Rattle.vx_sound.specs.Law.{Passes}
 
 -- In a typed program a member doesn't fail, where the walks of all that it leads to passed, with right unsat replies.

@@ -13,8 +13,8 @@ use Rattle.vx_types.specs.FieldLanguage.{IsFieldMethod}
 use Rattle.vx_types.specs.StoreLanguage.{IsStoreMethod}
 use Rattle.vx_types.specs.CallLanguage.{IsCallingMember}
 use Rattle.vx_types.specs.InstanceLanguage.{IsInstanceMember}
-use Rattle.vx_whole.specs.Premises.{IsTypedProgram}
-use Rattle.vx_whole.specs.Closure.{InClosure, itself}
+use Rattle.vx_types.specs.Premises.{IsTypedProgram}
+use Rattle.vx_types.specs.Closure.{InClosure, itself}
 use Rattle.vx_elements.proofs.Cases.{store_method}
 use Rattle.vx_sound.proofs.Says.{method_says as fields_say}
 use Rattle.vx_sound.proofs.Contracts.{field_method_speaks}

@@ -2,7 +2,7 @@
 use Rattle.std.proofs.Common.{◌≡◌, List, [], ◌∷◌, Option, Some, None}
 use Rattle.std.specs.Prelude.{⊤}
 use Rattle.vx_ast.specs.Syntax.{Name, Program, Method, method_named, Measure, ByNumber, ByInstance, Expr, Number, Truth, Null, Part, Variable, Not, Operate, Divide, Connect, Choose, Read, Old, Apply, Unfolding, Exprs, NoMore, More, Assertion, Pure, Points, Instance, Both, Implied, Chosen, Stmt, Declare, Assign, Write, New, Call, Inhale, Exhale, Assert, Assume, Fold, Unfold, If, While, Block, Done, Then}
-use Rattle.vx_whole.specs.Premises.{IsTypedProgram}
+use Rattle.vx_types.specs.Premises.{IsTypedProgram}
 use Rattle.vx_sound.proofs.World.{World}
 use Rattle.vx_sound.proofs.Speaks as instances
 use Rattle.vx_sound.proofs.Says as instances_say

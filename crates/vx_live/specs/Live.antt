@@ -10,8 +10,8 @@ use Rattle.vx_smt_meaning.specs.Standard.{standard_symbols}
 use Rattle.vx_rules.specs.Trees.{Question, Tree, End, Impossible, On, Step, Ask, Probe, Fork}
 use Rattle.vx_rules.specs.Members.{tree, method_tree}
 use Rattle.vx_types.specs.Typing.{IsTypedMethod}
-use Rattle.vx_whole.specs.Premises.{IsTypedProgram}
-use Rattle.vx_whole.specs.Closure.{InClosure}
+use Rattle.vx_types.specs.Premises.{IsTypedProgram}
+use Rattle.vx_types.specs.Closure.{InClosure}
 use Rattle.vx_live.specs.Functions.{function_symbols}
 
 -- one of the five sorts that every dialogue knows

@@ -2,7 +2,7 @@
 
 use std::cmp::Ordering;
 use vx_frac::{Frac, Op, Over};
-use vx_lines::Text;
+use vx_table::Text;
 
 // A numerator, with a denominator where it isn't 1; None: the word is none, or the denominator isn't above 0.
 fn fraction_of(word: &str) -> Option<Frac> {

@@ -7,7 +7,7 @@ ghost use Rattle.vx_graph.specs.Views.{rows};
 use std::alloc::{AllocError, Global};
 use vx_ast::MemberId;
 use vx_graph::{Edges, Groups, all_groups, are_in_range, group, reaches, rests};
-use vx_lines::Text;
+use vx_table::Text;
 
 // The edges that are written as `a>b`, of so many members; None: one isn't, or leads out of the members.
 fn edges_of(alloc: Global, members: u32, text: &str) -> Result<Option<Edges>, AllocError> {

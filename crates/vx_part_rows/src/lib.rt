@@ -15,8 +15,7 @@ use crate::names::{put_names, put_order};
 use crate::sexps::put_sexp;
 use crate::texts::{put_beginnings, put_reading};
 use std::alloc::{AllocError, Global};
-use vx_lines::Text;
-use vx_table::{Asks, Row};
+use vx_table::{Asks, Row, Text};
 
 // The row's text, or an empty one where its bytes are no characters.
 fn text_in(row: &Row) -> &str {

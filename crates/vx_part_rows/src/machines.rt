@@ -7,7 +7,6 @@ use crate::texts::put_place;
 use std::alloc::{AllocError, Global};
 use std::rc::Rc;
 use vx_ast::{MemberId, Place};
-use vx_lines::Text;
 use vx_machine::{Ask, Machine, Outcome};
 use vx_parser::parse;
 use vx_report::{code_word, reply_word};
@@ -18,7 +17,7 @@ use vx_settling::settle;
 use vx_smt_meaning::Command;
 use vx_smt_text::write;
 use vx_stack::Query;
-use vx_table::{Row, Step};
+use vx_table::{Row, Step, Text};
 use vx_terms::Term;
 use vx_typing::{Typed, check};
 

@@ -2,9 +2,8 @@
 
 use std::alloc::{AllocError, Global};
 use vx_ends::Parts;
-use vx_lines::Text;
 use vx_parser::parse;
-use vx_table::Row;
+use vx_table::{Row, Text};
 use vx_typing::{Signature, Typed, check};
 use vx_words::{Order, WordsFault, read_words};
 

@@ -1,8 +1,8 @@
 //! The first s-expression of some bytes: at once, and as they come one by one.
 
 use std::alloc::Global;
-use vx_lines::Text;
 use vx_sexp::{Bytes, Kind, Reading, SexpFault, Token, count_finished, cut, read};
+use vx_table::Text;
 
 fn put_fault(front: &str, at: usize, out: &mut Text) {
     out.put(front);

@@ -2,8 +2,8 @@
 
 use std::alloc::Global;
 use vx_ast::Place;
-use vx_lines::Text;
 use vx_parser::{TextFault, parse};
+use vx_table::Text;
 
 /// A line and a column.
 pub fn put_place(place: Place, out: &mut Text) {

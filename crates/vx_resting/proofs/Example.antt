@@ -5,7 +5,7 @@ use Rattle.vx_closure.specs.Leads.{LeadsTo}
 use Rattle.vx_report.specs.Reports.{verdict_text}
 use Rattle.vx_report.specs.declared.run.Verdict.TheVariants as verdict
 use Rattle.vx_resting.specs.Worked.{members, MustRead}
-use Rattle.vx_whole.specs.Closure.{itself, further}
+use Rattle.vx_types.specs.Closure.{itself, further}
 
 m_leads_to_P : LeadsTo members 1 0
 m_leads_to_P = (_, _, refl, refl, further itself (inl refl))

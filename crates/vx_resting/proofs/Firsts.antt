@@ -13,7 +13,7 @@ use Rattle.vx_graph.proofs.Rows.{take_is_in}
 use Rattle.vx_report.specs.declared.run.MemberRun.{MemberRun}
 use Rattle.vx_resting.specs.Held.{Held, held_at, AreFirst, or_held_by}
 use Rattle.vx_resting.specs.Resting.{HoldsUp, IsFirst, has_passed}
-use Rattle.vx_whole.specs.Closure.{itself}
+use Rattle.vx_types.specs.Closure.{itself}
 
 -- one more item, which has the property or not
 first_more : (P : MemberRun → Type 0) (r : MemberRun) (b : Bool) → (b ≡ true → P r) → (b ≡ false → P r → ⊥) → (runs : List MemberRun) (found : Option MemberId) → IsFirst P runs found → IsFirst P (runs ++ r ∷ []) (or_held_by found b r.member)

@@ -2,8 +2,7 @@
 
 use crate::answers::answer;
 use std::alloc::{AllocError, Global};
-use vx_lines::Text;
-use vx_table::{Answers, Row};
+use vx_table::{Answers, Row, Text};
 
 // Answers rows with the runtime, which child processes and files need.
 #[derive(Drop)]
@@ -33,7 +32,7 @@ fn table_length(text: &str) -> usize {
 fn put_certificates(alloc: Global, text: &str, out: &mut Text) -> Result<(), AllocError> {
     let at = table_length(text);
     cs_rows::run_all(alloc, text.get(..at).unwrap_or(text), out)?;
-    cs_scripts::run_script(alloc, text.as_bytes().get(at..).unwrap_or(&[]), out)
+    cs_rows::run_script(alloc, text.as_bytes().get(at..).unwrap_or(&[]), out)
 }
 
 /// What came of the rows of a table, and behind the line `certificates` of those of certificates and of a script.

@@ -6,9 +6,8 @@ use vx_commands::run;
 use vx_companion::Builtin;
 use vx_edge::ChildSpawner;
 use vx_ends::{Bytes, Ending, MemFiles, MemSink, NamedText, Piece, Script, ScriptSpawner, Spawner};
-use vx_lines::Text;
 use vx_report::{Cause, MemberRun, Verdict};
-use vx_table::{Asks, Row, Solver};
+use vx_table::{Asks, Row, Solver, Text};
 
 fn input(alloc: Global, row: &Row) -> Result<MemFiles, AllocError> {
     let mut texts = Vec::new(alloc);

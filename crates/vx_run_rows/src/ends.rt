@@ -4,8 +4,7 @@ use std::alloc::{AllocError, Global};
 use vx_companion::Builtin;
 use vx_edge::DiskFiles;
 use vx_ends::{Files, Link, LinkFault, LoadFault, Parts, Spawner, StartFault};
-use vx_lines::Text;
-use vx_table::Row;
+use vx_table::{Row, Text};
 
 /// How much the file holds that the words name.
 ///

@@ -6,8 +6,8 @@ use Rattle.vx_ast.specs.Mentions.{mentioned, mentioned_in, mentioned_by}
 use Rattle.vx_types.specs.Typing.{Scope, HasType, number, truth, nulls, part, variable, nots, operates, scales, divides, connects, chooses, reads, olds, applies, unfoldings, IsTyped, AllTyped, IsTypedMethod}
 use Rattle.vx_types.specs.FieldLanguage.{InFields, IsOfFields, AreOfFields}
 use Rattle.vx_ast.specs.Apart.{Stands}
-use Rattle.vx_whole.specs.Premises.{IsTypedProgram}
-use Rattle.vx_whole.specs.Closure.{mentioned_by_all, mentioned_by_contract, mentioned_by_stmt, mentioned_by_block, mentioned_by_body, mentioned_by_kind, InClosure, itself, further}
+use Rattle.vx_types.specs.Premises.{IsTypedProgram}
+use Rattle.vx_types.specs.Closure.{mentioned_by_all, mentioned_by_contract, mentioned_by_stmt, mentioned_by_block, mentioned_by_body, mentioned_by_kind, InClosure, itself, further}
 use Rattle.vx_types.specs.CallLanguage.{IsCallingStmt, IsCallingBlock, IsCallingBody, IsCallingMethod, IsCallingMember}
 use Rattle.vx_sound.proofs.Contracts.{HasFieldContract, SpeaksOfFields, AllSpeaks, BodySpeaks, MethodSpeaks}
 

@@ -3,7 +3,7 @@ use Rattle.std.proofs.Common.{Option, Some, None, ap}
 use Rattle.vx_ast.specs.Syntax.{Kind, IsField, IsPredicate, IsFunction, IsMethod, method_in, Stmt, Declare, Assign, Write, New, Call, Inhale, Exhale, Assert, Assume, Fold, Unfold, If, While, Block, Done, Then}
 use Rattle.vx_rules.specs.Members.{method_tree}
 use Rattle.vx_types.specs.FieldLanguage.{IsFieldStmt, IsFieldBlock, IsFieldBody}
-use Rattle.vx_whole.specs.Closure.{itself}
+use Rattle.vx_types.specs.Closure.{itself}
 use Rattle.vx_types.specs.CallLanguage.{IsCallingStmt, IsCallingBlock, IsCallingBody, IsCallingMember}
 use Rattle.vx_sound.specs.Law.{SoundLaw, IsFieldMember}
 use Rattle.vx_sound.proofs.Passes.{cleared}

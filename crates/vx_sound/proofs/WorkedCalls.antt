@@ -12,8 +12,8 @@ use Rattle.vx_rules.specs.Trees.{CallCode, Passed, Failed, walk}
 use Rattle.vx_rules.specs.Members.{rules, method_tree}
 use Rattle.vx_types.specs.Typing.{IsTypedMethod, number, part, variable, operates, reads, no_more, more}
 use Rattle.vx_ast.specs.Apart.{Stands}
-use Rattle.vx_whole.specs.Premises.{IsTypedProgram}
-use Rattle.vx_whole.specs.Closure.{InClosure, itself, further, mentions}
+use Rattle.vx_types.specs.Premises.{IsTypedProgram}
+use Rattle.vx_types.specs.Closure.{InClosure, itself, further, mentions}
 use Rattle.vx_types.specs.CallLanguage.{IsCallingMethod, IsCallingMember}
 use Rattle.vx_sound.specs.Law.{AllRight, MethodLaw, Passes}
 use Rattle.vx_sound.specs.Examples.{on_line, x, f, m, c, fills, uses, calls, trusts, forbidden, untyped}

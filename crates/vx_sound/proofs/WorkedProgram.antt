@@ -5,9 +5,9 @@ use Rattle.vx_ast.specs.declared.ValueType.TheVariants.{Int}
 use Rattle.vx_ast.specs.Syntax.{Name, same_name, Member, Kind, IsField, IsMethod, Predicate, Function, Method, Equal, member_named, predicate_in, function_in, method_in}
 use Rattle.vx_meaning.specs.Fails.{Fails}
 use Rattle.vx_types.specs.Typing.{IsTypedMethod, number, part, variable, operates, reads}
-use Rattle.vx_whole.specs.Premises.{IsTypedProgram}
-use Rattle.vx_whole.specs.Closure.{InClosure}
-use Rattle.vx_whole.proofs.Alone.{alone}
+use Rattle.vx_types.specs.Premises.{IsTypedProgram}
+use Rattle.vx_types.specs.Closure.{InClosure}
+use Rattle.vx_types.proofs.Alone.{alone}
 use Rattle.vx_sound.specs.Law.{Passes, IsFieldMember}
 use Rattle.vx_sound.specs.Examples.{on_line, x, f, m, sets, writes}
 use Rattle.vx_sound.proofs.Members.{members_sound}

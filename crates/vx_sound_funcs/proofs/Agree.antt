@@ -10,8 +10,8 @@ use Rattle.vx_meaning.specs.Flatten.{bare, IsGrounded}
 use Rattle.vx_meaning.specs.Consistent.{IsConsistent}
 use Rattle.vx_meaning.specs.Fits.{add}
 use Rattle.vx_terms.specs.Interpretations.{Tree}
-use Rattle.vx_whole.specs.Premises.{IsTypedProgram}
-use Rattle.vx_whole.specs.Closure.{InClosure}
+use Rattle.vx_types.specs.Premises.{IsTypedProgram}
+use Rattle.vx_types.specs.Closure.{InClosure}
 use Rattle.vx_amounts.proofs.Amounts.{Le, Positive, Same, same-refl, same-trans, le-trans, sum_same, none-sum, sum_comm, above-add, positive-le}
 use Rattle.vx_amounts.proofs.Products.{product-full, product-none}
 use Rattle.vx_sound_preds.specs.Bodies.{AreRigid, GoodBodies}

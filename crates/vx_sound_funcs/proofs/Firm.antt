@@ -4,7 +4,7 @@ use Rattle.std.specs.Prelude.{Ok}
 use Rattle.vx_frac.specs.Fractions.{none, full, sum, product}
 use Rattle.vx_ast.specs.Syntax.{Name, Program, Function, function_named, Expr, Exprs, Assertion, Pure, Points, Both, Implied, Chosen}
 use Rattle.vx_ast.specs.Syntax as syntax
-use Rattle.vx_whole.specs.Now.{IsOfNow, AreOfNow, SaysNow}
+use Rattle.vx_types.specs.Now.{IsOfNow, AreOfNow, SaysNow}
 use Rattle.vx_meaning.specs.Values.{Value}
 use Rattle.vx_meaning.specs.States.{State, Store, Heap, Holdings, Location, At, bind, with_store, value_at}
 use Rattle.vx_meaning.specs.Evaluate.{applications, value}

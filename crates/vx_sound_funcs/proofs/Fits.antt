@@ -12,7 +12,7 @@ use Rattle.vx_meaning.specs.Evaluate as plain
 use Rattle.vx_meaning.specs.Evaluate.{applications, value, values, value_by}
 use Rattle.vx_meaning.specs.Flatten.{bare}
 use Rattle.vx_meaning.specs.Fits.{Checked, ◌>>=◌, or_fail, guard, to_option, Deeper, choose, connected, location_of, amount_of, readable, has_instance, fit, fit_all, field_part, instance_part, take, take_part, add, add_part, application, exchange, deeper, Fits}
-use Rattle.vx_whole.specs.Now.{IsOfNow, AreOfNow}
+use Rattle.vx_types.specs.Now.{IsOfNow, AreOfNow}
 use Rattle.vx_sound.proofs.Fuel.{value_more, applications_later}
 use Rattle.vx_sound_preds.proofs.Fitting.{undo, not_failed, step}
 use Rattle.vx_sound_preds.proofs.Framing.{ok_same, picked}

@@ -9,7 +9,7 @@ use Rattle.vx_ast.specs.Syntax as syntax
 use Rattle.vx_meaning.specs.Values.{Value, IntValue, BoolValue, RefValue, PermValue, is_true, negated, operated, divided}
 use Rattle.vx_meaning.specs.States.{State, Heap, Holdings, Location, Instance, Resource, At, Folded, amount, gained, lost, lookup, bind, value_at, with_store, with_holdings}
 use Rattle.vx_meaning.specs.Fits.{Checked, ◌>>=◌, or_fail, guard, to_option, Deeper, choose, connected, location_of, amount_of, readable, has_instance, fit, fit_all, field_part, instance_part, take, take_part, add, add_part, exchange}
-use Rattle.vx_whole.specs.Now.{IsOfNow, AreOfNow, SaysNow}
+use Rattle.vx_types.specs.Now.{IsOfNow, AreOfNow, SaysNow}
 use Rattle.vx_sound_preds.specs.Bodies.{Rigid, IsPlain, ArePlain, IsPlainBody, GoodBodies}
 use Rattle.vx_sound_preds.proofs.Fitting.{undo, not_failed}
 use Rattle.vx_sound_preds.proofs.Framing.{ok_same}

@@ -4,7 +4,7 @@ use Rattle.vx_meaning.specs.States.{State}
 use Rattle.vx_sound_preds.proofs.Looks.{Sees}
 use Rattle.vx_ast.specs.Syntax.{Name, Program}
 use Rattle.vx_smt_meaning.specs.declared.reply.Reply.{Reply}
-use Rattle.vx_whole.specs.Premises.{IsTypedProgram}
+use Rattle.vx_types.specs.Premises.{IsTypedProgram}
 use Rattle.vx_sound_preds.specs.Bodies.{GoodBodies}
 use Rattle.vx_sound_preds.specs.Covered.{Covered, IsProper, PredicatesPass}
 use Rattle.vx_sound_preds.proofs.Kept.{bodies_covered}

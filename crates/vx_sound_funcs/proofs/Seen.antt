@@ -10,7 +10,7 @@ use Rattle.vx_meaning.specs.Evaluate.{Applications, value, values, applications,
 use Rattle.vx_sound.specs.Snapshots.{location_leaf, truth_leaf, tree_by}
 use Rattle.vx_sound_preds.proofs.Looks.{Sees}
 use Rattle.vx_sound_preds.specs.Asking.{Says, AllSay, HasRigidArguments, asking_tree, IsAsking}
-use Rattle.vx_whole.specs.Premises.{IsTypedProgram}
+use Rattle.vx_types.specs.Premises.{IsTypedProgram}
 use Rattle.vx_sound_funcs.specs.Firm.{GoodFunctions}
 use Rattle.vx_sound_funcs.specs.Laws.{AskingTreesLook}
 use Rattle.vx_sound_funcs.proofs.TypedFunctions.{good_functions}

@@ -8,8 +8,8 @@ use Rattle.vx_ast.specs.declared.Place.{Place}
 use Rattle.vx_ast.specs.Syntax.{Name, Declaration, Program, Predicate, Function, function_named, Expr, Exprs, Assertion, Pure, Points, Both, Implied, Chosen, place_of, Kind, member_named, predicate_named, joined, joined_with}
 use Rattle.vx_ast.specs.Syntax as syntax
 use Rattle.vx_types.specs.Typing.{type_in, HasType, HaveTypes, no_more, more, IsTyped, HaveNoPerm}
-use Rattle.vx_whole.specs.Premises.{IsTypedProgram}
-use Rattle.vx_whole.specs.Closure.{InClosure, mentioned_by_measure, mentioned_by_kind, further}
+use Rattle.vx_types.specs.Premises.{IsTypedProgram}
+use Rattle.vx_types.specs.Closure.{InClosure, mentioned_by_measure, mentioned_by_kind, further}
 use Rattle.vx_meaning.specs.Values.{Value, BoolValue, type_of, is_true, IntValue, RefValue, PermValue}
 use Rattle.vx_meaning.specs.States as run
 use Rattle.vx_meaning.specs.States.{State, Heap, Instance, Resource, At, Folded, amount, gained, bind, from_now, with_holdings}

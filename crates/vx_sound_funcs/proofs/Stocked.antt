@@ -3,7 +3,7 @@ use Rattle.std.proofs.Common.{◌≡◌, ◌⊎◌, inl, inr, Bool, true, false,
 use Rattle.vx_frac.specs.Fractions.{none, sum}
 use Rattle.vx_ast.specs.Syntax.{Name, Program}
 use Rattle.vx_meaning.specs.States.{Heap, Holdings, Resource, At, Folded, same_resource, amount}
-use Rattle.vx_whole.specs.Closure.{InClosure}
+use Rattle.vx_types.specs.Closure.{InClosure}
 use Rattle.vx_amounts.proofs.Amounts.{Le, le-refl}
 use Rattle.vx_sound_preds.specs.Covered.{TypedInstances, IsStocked}
 use Rattle.vx_sound_preds.proofs.Grouped.{IsSingle, AreSingle, NoDebts, resource_is}

@@ -9,8 +9,8 @@ use Rattle.vx_ast.specs.Syntax as syntax
 use Rattle.vx_ast.specs.Apart.{Stands}
 use Rattle.vx_types.specs.Typing.{Scope, HaveNoPerm, gives_type, HasType, number, truth, nulls, part, variable, nots, operates, scales, divides, connects, chooses, reads, olds, applies, unfoldings, HaveTypes, no_more, more, IsTyped}
 use Rattle.vx_terms.specs.Interpretations.{Each}
-use Rattle.vx_whole.specs.Now.{IsOfNow, AreOfNow, SaysNow}
-use Rattle.vx_whole.specs.Premises.{IsConstantAmount, HasConstantAmounts, IsTypedProgram}
+use Rattle.vx_types.specs.Now.{IsOfNow, AreOfNow, SaysNow}
+use Rattle.vx_types.specs.Premises.{IsConstantAmount, HasConstantAmounts, IsTypedProgram}
 use Rattle.vx_meaning.specs.Values.{Value, IntValue, BoolValue, RefValue, PermValue, negated, operated, divided, divided_ints, needs_right, without_right}
 use Rattle.vx_meaning.specs.States.{State, Store, Location, lookup, bind, with_store, at_old, value_at, field_type, type_or_int}
 use Rattle.vx_meaning.specs.Evaluate.{choose, connected, read, applications, value, values}

@@ -13,8 +13,8 @@ use Rattle.vx_meaning.specs.Fits.{◌>>=◌, guard, to_option, Fits, fit_by, add
 use Rattle.vx_terms.specs.Interpretations.{IntLeaf}
 use Rattle.vx_terms.proofs.Same.{int_same}
 use Rattle.vx_sound.specs.Snapshots.{leaf, IsTree}
-use Rattle.vx_whole.specs.Closure.{itself}
-use Rattle.vx_whole.specs.Now.{IsOfNow}
+use Rattle.vx_types.specs.Closure.{itself}
+use Rattle.vx_types.specs.Now.{IsOfNow}
 use Rattle.vx_sound_preds.specs.Bodies.{IsRigid, AreRigid, RigidStore, Rigid, IsAmount, GoodBodies, IsPlainBody}
 use Rattle.vx_sound_preds.specs.Covered.{AllGood, Covered, IsProper}
 use Rattle.vx_sound_preds.specs.Examples.{here, P, f, x, instance_of}

@@ -6,9 +6,9 @@ use Rattle.vx_ast.specs.Syntax.{Name, same_name, result_name, Member, Predicate,
 use Rattle.vx_ast.specs.Apart.{Stands, entered_by, entered_by_body, entered_by_measure}
 use Rattle.vx_types.specs.Typing.{IsTypedPredicate, IsTypedFunction, variable, part, operates, reads, applies, unfoldings, no_more, more}
 use Rattle.vx_terms.specs.Interpretations.{Each, IntLeaf}
-use Rattle.vx_whole.specs.Now.{SaysNow, SpeaksOfNow}
-use Rattle.vx_whole.specs.Premises.{HasConstantAmounts, IsTypedProgram}
-use Rattle.vx_whole.specs.Closure.{itself}
+use Rattle.vx_types.specs.Now.{SaysNow, SpeaksOfNow}
+use Rattle.vx_types.specs.Premises.{HasConstantAmounts, IsTypedProgram}
+use Rattle.vx_types.specs.Closure.{itself}
 use Rattle.vx_meaning.specs.States.{State, Location, Folded, same_location, same_resource, with_store}
 use Rattle.vx_meaning.specs.Values.{IntValue, RefValue}
 use Rattle.vx_meaning.specs.Flatten.{IsGrounded}

@@ -3,7 +3,7 @@
 use Rattle.std.specs.Prelude.{◌≡◌, ℕ, zero, suc, true, List, Option, Some, None, Ok}
 use Rattle.vx_frac.specs.Fractions.{full, is_positive}
 use Rattle.vx_ast.specs.Syntax.{Name, Program, Function, function_named, conjoined, Expr, Assertion}
-use Rattle.vx_whole.specs.Now.{IsOfNow}
+use Rattle.vx_types.specs.Now.{IsOfNow}
 use Rattle.vx_meaning.specs.Values.{Value, is_true}
 use Rattle.vx_meaning.specs.States.{State, Heap, Instance, Folded, amount, bind, with_store}
 use Rattle.vx_meaning.specs.Flatten.{bare, IsGrounded}

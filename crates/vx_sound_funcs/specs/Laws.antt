@@ -11,8 +11,8 @@ use Rattle.vx_meaning.specs.Flatten.{entries, flat}
 use Rattle.vx_meaning.specs.Consistent.{IsConsistent}
 use Rattle.vx_meaning.specs.Fits.{Fits, Takes, Eventually, fit_all, take, deeper}
 use Rattle.vx_meaning.specs.Fails.{FunctionStarts}
-use Rattle.vx_whole.specs.Closure.{InClosure}
-use Rattle.vx_whole.specs.Now.{IsOfNow}
+use Rattle.vx_types.specs.Closure.{InClosure}
+use Rattle.vx_types.specs.Now.{IsOfNow}
 use Rattle.vx_sound.specs.Snapshots.{assertion_tree, IsTree}
 use Rattle.vx_sound_preds.specs.Bodies.{AreRigid, Rigid, IsPlainBody}
 use Rattle.vx_sound_preds.specs.Asking.{asking_tree, asking_entries, IsAskingTreeOf, IsAsking}

@@ -13,7 +13,7 @@ ghost use Rattle.vx_meaning.specs.Consistent.{IsConsistent};
 ghost use Rattle.vx_meaning.specs.Fits.{deeper, Fits, FailsToFit};
 ghost use Rattle.vx_sound.specs.Snapshots.{assertion_tree, tree_by, IsTree};
 ghost use Rattle.vx_smt_meaning.specs.declared.reply.Reply.{Reply};
-ghost use Rattle.vx_whole.specs.Premises.{IsTypedProgram};
+ghost use Rattle.vx_types.specs.Premises.{IsTypedProgram};
 ghost use Rattle.vx_sound_preds.specs.Bodies.{IsPlain, GoodBodies};
 ghost use Rattle.vx_sound_preds.specs.Covered.{Covered, IsProper, PredicatesPass, IsStocked};
 ghost use Rattle.vx_sound_preds.specs.Examples.{here, P, instance_of};

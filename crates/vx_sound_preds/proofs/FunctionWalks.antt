@@ -12,8 +12,8 @@ use Rattle.vx_meaning.specs.States as run
 use Rattle.vx_meaning.specs.Fails.{FunctionStarts, DoesNotLower, Application, FunctionFails}
 use Rattle.vx_rules.specs.Members.{depth, rules as member_rules, tree}
 use Rattle.vx_types.specs.Typing.{Scope, IsTypedMeasure, IsTyped, HasType, number, truth, nulls, part, variable, nots, operates, scales, divides, connects, chooses, reads, olds, applies, unfoldings, HaveTypes, no_more, more}
-use Rattle.vx_whole.specs.Premises.{IsTypedProgram}
-use Rattle.vx_whole.specs.Closure.{mentioned_by_measure, mentioned_by_kind, InClosure, further}
+use Rattle.vx_types.specs.Premises.{IsTypedProgram}
+use Rattle.vx_types.specs.Closure.{mentioned_by_measure, mentioned_by_kind, InClosure, further}
 use Rattle.vx_elements.proofs.Settled.{Meaning}
 use Rattle.vx_sound.specs.Law.{Passes}
 use Rattle.vx_sound.proofs.Marks.{Marks, Unmarked}

@@ -8,7 +8,7 @@ use Rattle.vx_meaning.specs.States.{Heap, Holdings, Location, Instance, At, Fold
 use Rattle.vx_meaning.specs.Flatten.{bare, flat}
 use Rattle.vx_meaning.specs.Consistent.{total, Changes, IsConsistent}
 use Rattle.vx_types.specs.Typing.{HaveNoPerm}
-use Rattle.vx_whole.specs.Closure.{InClosure}
+use Rattle.vx_types.specs.Closure.{InClosure}
 use Rattle.vx_amounts.proofs.Amounts.{Le, Positive, le-refl, le-trans, add-left, none-full, none-sum, sum_comm, not-positive}
 use Rattle.vx_sound.proofs.Marks.{Unmarked}
 use Rattle.vx_sound.proofs.World.{at_field, IsTypedInstance, World, Changing}

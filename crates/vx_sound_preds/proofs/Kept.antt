@@ -5,8 +5,8 @@ use Rattle.vx_smt_meaning.specs.declared.reply.Reply.{Reply}
 use Rattle.vx_meaning.specs.States.{State, Heap, Holdings, Instance, At, Folded, amount, with_heap}
 use Rattle.vx_meaning.specs.Consistent.{Changes, IsConsistent}
 use Rattle.vx_terms.specs.Interpretations.{Tree}
-use Rattle.vx_whole.specs.Premises.{IsTypedProgram}
-use Rattle.vx_whole.specs.Closure.{InClosure}
+use Rattle.vx_types.specs.Premises.{IsTypedProgram}
+use Rattle.vx_types.specs.Closure.{InClosure}
 use Rattle.vx_amounts.proofs.Amounts.{Positive}
 use Rattle.vx_sound.specs.Snapshots.{IsTree}
 use Rattle.vx_sound.proofs.World.{Changing}

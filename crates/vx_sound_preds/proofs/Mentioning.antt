@@ -5,8 +5,8 @@ use Rattle.vx_ast.specs.Syntax.{Name, Declaration, Program, Kind, IsField, IsPre
 use Rattle.vx_ast.specs.Mentions.{mentioned, mentioned_in, mentioned_by}
 use Rattle.vx_types.specs.Typing.{Scope, HaveNoPerm, HasType, number, truth, nulls, part, variable, nots, operates, scales, divides, connects, chooses, reads, olds, applies, unfoldings, HaveTypes, no_more, more, IsTyped, AllTyped, IsTypedStmt, IsTypedBlock, IsTypedBody, IsTypedMethod, scope_after}
 use Rattle.vx_ast.specs.Apart.{Stands}
-use Rattle.vx_whole.specs.Premises.{IsTypedProgram}
-use Rattle.vx_whole.specs.Closure.{mentioned_by_all, mentioned_by_contract, mentioned_by_stmt, mentioned_by_block, mentioned_by_body as mentioned_by_statements, mentioned_by_kind, InClosure, itself, further}
+use Rattle.vx_types.specs.Premises.{IsTypedProgram}
+use Rattle.vx_types.specs.Closure.{mentioned_by_all, mentioned_by_contract, mentioned_by_stmt, mentioned_by_block, mentioned_by_body as mentioned_by_statements, mentioned_by_kind, InClosure, itself, further}
 use Rattle.vx_sound.proofs.World.{World}
 use Rattle.vx_sound.proofs.Speaks.{Speaks, AllSpeak, SpeaksOf, AllSpeakOf}
 use Rattle.vx_sound.proofs.Says.{HasContract, Says, AllSay, BodySays, MethodSays}

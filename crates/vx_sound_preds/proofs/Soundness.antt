@@ -4,8 +4,8 @@ use Rattle.vx_ast.specs.declared.Place.{Place}
 use Rattle.vx_ast.specs.Syntax.{Name, Program, Kind, IsField, IsPredicate, IsFunction, IsMethod, Method, Predicate, member_named, predicate_named, method_in, predicate_in}
 use Rattle.vx_smt_meaning.specs.declared.reply.Reply.{Reply}
 use Rattle.vx_rules.specs.Members.{method_tree}
-use Rattle.vx_whole.specs.Premises.{IsTypedProgram}
-use Rattle.vx_whole.specs.Closure.{InClosure, itself}
+use Rattle.vx_types.specs.Premises.{IsTypedProgram}
+use Rattle.vx_types.specs.Closure.{InClosure, itself}
 use Rattle.vx_meaning.specs.Fails.{MethodFails, Fails}
 use Rattle.vx_elements.proofs.Settled.{Meaning}
 use Rattle.vx_sound.specs.Law.{Passes, SoundLaw}

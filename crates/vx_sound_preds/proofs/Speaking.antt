@@ -7,8 +7,8 @@ use Rattle.vx_ast.specs.Mentions.{mentioned, mentioned_in, mentioned_by}
 use Rattle.vx_types.specs.Typing.{HaveNoPerm, IsTypedContent}
 use Rattle.vx_ast.specs.Apart.{Stands}
 use Rattle.vx_ast.specs.Apart.{mentioned_by_body}
-use Rattle.vx_whole.specs.Premises.{IsTypedProgram}
-use Rattle.vx_whole.specs.Closure.{mentioned_by_kind, InClosure, further}
+use Rattle.vx_types.specs.Premises.{IsTypedProgram}
+use Rattle.vx_types.specs.Closure.{mentioned_by_kind, InClosure, further}
 use Rattle.vx_sound.proofs.Speaks.{Speaks, AllSpeak, SpeaksOf}
 use Rattle.vx_sound_preds.specs.Bodies.{Rigid, IsPlain, ArePlain, IsPlainBody, GoodBodies}
 use Rattle.vx_sound_preds.proofs.Typed.{on_left, on_right, good_bodies}

@@ -19,7 +19,7 @@ use Rattle.vx_rules.specs.Trees.{Tree, End}
 use Rattle.vx_rules.specs.Rules.{produce}
 use Rattle.vx_rules.specs.Members.{depth, rules as member_rules, blank, ended, tree}
 use Rattle.vx_types.specs.Typing.{HaveNoPerm}
-use Rattle.vx_whole.specs.Closure.{InClosure}
+use Rattle.vx_types.specs.Closure.{InClosure}
 use Rattle.vx_elements.proofs.Settled.{Meaning}
 use Rattle.vx_amounts.proofs.Amounts.{Le, Positive, le-refl, le-trans, le-is, not-positive, positive-or, above-add, below-add, sum_same, full-positive}
 use Rattle.vx_amounts.proofs.Products.{product_sign, product_positive, positive_le}

@@ -7,9 +7,9 @@ use Rattle.vx_ast.specs.declared.ValueType.TheVariants as type
 use Rattle.vx_ast.specs.Syntax.{Name, same_name, Member, Predicate, Function, Method, Assertion, Kind, IsField, IsPredicate, Equal, member_named, predicate_in, function_in, method_in, predicate_named}
 use Rattle.vx_types.specs.Typing.{IsTypedPredicate, variable, part, number, nulls, nots, operates, reads, no_more, more}
 use Rattle.vx_ast.specs.Apart.{Stands, entered_by_body}
-use Rattle.vx_whole.specs.Now.{SaysNow}
-use Rattle.vx_whole.specs.Premises.{HasConstantAmounts, IsTypedProgram}
-use Rattle.vx_whole.specs.Closure.{itself}
+use Rattle.vx_types.specs.Now.{SaysNow}
+use Rattle.vx_types.specs.Premises.{HasConstantAmounts, IsTypedProgram}
+use Rattle.vx_types.specs.Closure.{itself}
 use Rattle.vx_meaning.specs.Values.{PermValue, RefValue}
 use Rattle.vx_meaning.specs.States.{State, HaveTypes, At, amount}
 use Rattle.vx_meaning.specs.Flatten.{bare, flat}

@@ -10,9 +10,9 @@ use Rattle.vx_smt_meaning.specs.declared.reply.Reply.TheVariants.{Unsat}
 use Rattle.vx_rules.specs.Members.{rules}
 use Rattle.vx_types.specs.Typing.{IsTypedPredicate, IsTypedMethod, HaveTypes, number, part, variable, operates, reads, unfoldings, no_more, more}
 use Rattle.vx_ast.specs.Apart.{Stands, entered_by_body}
-use Rattle.vx_whole.specs.Now.{SaysNow}
-use Rattle.vx_whole.specs.Premises.{HasConstantAmounts, IsTypedProgram}
-use Rattle.vx_whole.specs.Closure.{InClosure, itself, further, mentions}
+use Rattle.vx_types.specs.Now.{SaysNow}
+use Rattle.vx_types.specs.Premises.{HasConstantAmounts, IsTypedProgram}
+use Rattle.vx_types.specs.Closure.{InClosure, itself, further, mentions}
 use Rattle.vx_sound.specs.Law.{Passes}
 use Rattle.vx_sound.specs.Examples.{on_line}
 use Rattle.vx_sound_preds.specs.Examples.{here, P, f, x, cell, cell_body}

@@ -12,9 +12,9 @@ use Rattle.vx_rules.specs.Members.{rules}
 use Rattle.vx_types.specs.Typing.{IsTypedPredicate, number, part, variable, operates, reads, unfoldings, no_more, more}
 use Rattle.vx_ast.specs.Apart.{Stands, entered_by_body}
 use Rattle.vx_ast.specs.Apart.{ReachesBy}
-use Rattle.vx_whole.specs.Now.{SaysNow}
-use Rattle.vx_whole.specs.Premises.{HasConstantAmounts, IsTypedProgram}
-use Rattle.vx_whole.specs.Closure.{itself}
+use Rattle.vx_types.specs.Now.{SaysNow}
+use Rattle.vx_types.specs.Premises.{HasConstantAmounts, IsTypedProgram}
+use Rattle.vx_types.specs.Closure.{itself}
 use Rattle.vx_sound.specs.Law.{Passes}
 use Rattle.vx_sound.specs.Examples.{on_line}
 use Rattle.vx_sound_preds.specs.Covered.{Covered, IsProper, PredicatesPass}

@@ -6,7 +6,7 @@ use Rattle.vx_smt_meaning.specs.declared.reply.Reply.{Reply}
 use Rattle.vx_meaning.specs.States.{State, Heap, Holdings, Instance, Resource, At, Folded, HaveTypes, amount, bind}
 use Rattle.vx_meaning.specs.Flatten.{bare, body_entries, flat, IsGrounded}
 use Rattle.vx_meaning.specs.Fits.{add, deeper}
-use Rattle.vx_whole.specs.Closure.{InClosure}
+use Rattle.vx_types.specs.Closure.{InClosure}
 use Rattle.vx_sound.specs.Law.{Passes}
 
 abbrev pub AllGood : (Heap → Instance → Type 0) → Heap → Holdings → Type 0

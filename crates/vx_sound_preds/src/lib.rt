@@ -12,7 +12,7 @@ ghost use Rattle.vx_meaning.specs.Consistent.{total, Changes, IsSupported, IsCon
 ghost use Rattle.vx_meaning.specs.Outcomes.{Ends};
 ghost use Rattle.vx_meaning.specs.Give.{give};
 ghost use Rattle.vx_sound.specs.Snapshots.{tree_by, IsTree};
-ghost use Rattle.vx_whole.specs.Premises.{IsTypedProgram};
+ghost use Rattle.vx_types.specs.Premises.{IsTypedProgram};
 ghost use Rattle.vx_sound_preds.specs.Bodies.{GoodBodies};
 ghost use Rattle.vx_sound_preds.specs.Examples.{f, P, instance_of, cell, cells, chain, chains, loops, owes, owing, remembers};
 ghost use Rattle.vx_sound_preds.specs.Covered.{Covered, IsProper, PredicatesPass, IsStocked};

@@ -4,6 +4,8 @@
 
 mod row;
 mod table;
+mod text;
 
 pub use row::{Asks, Row, Solver, Step};
 pub use table::{Answers, run_all};
+pub use text::Text;

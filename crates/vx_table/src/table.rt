@@ -1,9 +1,9 @@
 //! The lines of a table. A line is a word and what stands behind it; a row ends before the next `row`.
 
+use crate::Text;
 use crate::row::{Asks, Row, Solver, Step};
 use std::alloc::{AllocError, Global};
 use vx_ends::Bytes;
-use vx_lines::Text;
 use vx_rules::Reply;
 
 // The number in front of a text, and the text behind a blank.

@@ -7,7 +7,7 @@ use Rattle.vx_resolved.specs.Settled.{settled}
 use Rattle.vx_resolved.specs.declared.Stmt.{Stmt}
 use Rattle.vx_resolved.specs.declared.Block.TheViews.{the_lemmas}
 use Rattle.vx_resolved.specs.declared.Block.{Block, size-Block, Then as Then_}
-use Rattle.vx_whole.specs.Closure.{mentioned_by_stmt, mentioned_by_block}
+use Rattle.vx_types.specs.Closure.{mentioned_by_stmt, mentioned_by_block}
 use Rattle.vx_closure.specs.Known.{known}
 use Rattle.vx_closure.proofs.mentions.+blocks.Goals as goal
 

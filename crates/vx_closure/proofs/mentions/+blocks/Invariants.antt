@@ -4,7 +4,7 @@ use Rattle.vx_closure.specs.Known.{known}
 use Rattle.vx_resolved.specs.Resolved.{block}
 use Rattle.vx_resolved.specs.Settled.{settled}
 use Rattle.vx_resolved.specs.declared.Block.{size-Block}
-use Rattle.vx_whole.specs.Closure.{mentioned_by_block}
+use Rattle.vx_types.specs.Closure.{mentioned_by_block}
 use Rattle.vx_closure.proofs.mentions.+blocks.Given as goal
 
 -- what is left of the block is still to be added

@@ -3,7 +3,7 @@ use Rattle.vx_ast.specs.Syntax.{Name}
 use Rattle.vx_closure.specs.Known.{known}
 use Rattle.vx_resolved.specs.Resolved.{assertions}
 use Rattle.vx_resolved.specs.Settled.{settled}
-use Rattle.vx_whole.specs.Closure.{mentioned_by_all}
+use Rattle.vx_types.specs.Closure.{mentioned_by_all}
 use Rattle.vx_closure.proofs.mentions.add_assertions.Given as goal
 
 -- those that are left are still to be added

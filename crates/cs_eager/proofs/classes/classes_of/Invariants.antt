@@ -1,6 +1,0 @@
-use Rattle.cs_table.specs.Table.{nodes_in}
-use Rattle.cs_eager.specs.Assigned.{AreClasses}
-use Rattle.cs_eager.proofs.classes.classes_of.Given as goal
-
-abbrev pub invariant-loop-number : goal.invariant-loop-number
-invariant-loop-number l = AreClasses (nodes_in l.nodes) l.truths l.number l.classes.items

@@ -1,4 +1,0 @@
-pub mod Answers
-pub mod Atoms
-pub mod Replayed
-pub mod Assigned

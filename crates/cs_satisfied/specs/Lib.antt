@@ -1,2 +1,0 @@
-pub mod Classed
-pub mod Laws

@@ -1,5 +1,0 @@
-use Rattle.vx_told.proofs.Below.{ask_below}
-use Rattle.vx_told.proofs.preconditions_ask_below.Goals as goal
-
-pub returns : goal.returns
-returns c = ask_below

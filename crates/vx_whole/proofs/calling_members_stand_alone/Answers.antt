@@ -1,5 +1,0 @@
-use Rattle.vx_whole.proofs.Alone.{calling_alone}
-use Rattle.vx_whole.proofs.calling_members_stand_alone.Goals as goal
-
-pub returns : goal.returns
-returns c = λ p all x y closed. calling_alone p all x y closed

@@ -1,3 +1,0 @@
-pub mod Now
-pub mod Premises
-pub mod Closure
