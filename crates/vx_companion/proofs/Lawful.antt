@@ -18,12 +18,14 @@ use Rattle.vx_smt_meaning.specs.Words.{command_tokens}
 use Rattle.vx_smt_meaning.specs.Replies.{Items, is_refusal, is_word_item, answer_of, is_given}
 use Rattle.vx_smt_meaning.specs.Dialogues.{is_lawful_to, Answers, Check}
 use Rattle.vx_smt_text.specs.Text.{command_text, commands_text}
+use Rattle.vx_smt_text.specs.Small.{IsSmallCommand}
 use Rattle.vx_ends.specs.declared.piece.Piece.{Piece}
 use Rattle.vx_ends.specs.Dialogue.{sent, got}
 use Rattle.vx_dialogue.specs.declared.item.Wanted.{Wanted}
 use Rattle.vx_dialogue.specs.Items.{longest, is_lawful, IsNoExpression, IsTooLong, IsNoItem, IsGarbled, IsRefused}
 use Rattle.vx_dialogue.specs.Stops.{Stops, wanted_by}
 use Rattle.vx_dialogue.specs.History.{Tells}
+use Rattle.vx_dialogue.specs.Pace.{FewWait}
 use Rattle.vx_dialogue.proofs.Joined.{append_none, first_longer, items_of}
 use Rattle.vx_dialogue.proofs.Counts.{finished_first}
 use Rattle.cs_commands.specs.Laws.{AreApart}
@@ -39,7 +41,7 @@ use Rattle.vx_companion.specs.Lawful.{IsTaken, Fits, CompanionIsLawful}
 use Rattle.vx_companion.proofs.Lines.{fed, item_of, is_short, short_line, first_fed, reply_first, reply_short, reply_shallow, complaint_unlawful, unsupported_unlawful}
 use Rattle.vx_companion.proofs.Answered.{IsAnswer, AreAnswers, texts_of, answers_of}
 use Rattle.vx_companion.proofs.Taken.{IsDone, done_by}
-use Rattle.vx_companion.proofs.Rightly.{command_first, nothing_read}
+use Rattle.vx_companion.proofs.Rightly.{command_first, nothing_read, front_commands, front_follow, front_each}
 
 -- ---- what is lawful goes by the tokens
 
@@ -125,25 +127,25 @@ some_left b c cs more bytes named is none =
 
 next_of : (before : List Command) (c : Command) (cs : List Command) (items : List (List Token)) (rs : List Reply) (b e : Bool) (s end : State) (levels : List Level)
     (bytes left sent_later unsent gotten ungot next : List ℕ)
-    → s.levels ≡ levels → AreApart (declared_in levels) → AreCommands cs → AllMayFollow levels cs → Each IsSorted cs → Each IsTaken cs → Each Fits cs
+    → s.levels ≡ levels → AreApart (declared_in levels) → AreCommands cs → AllMayFollow levels cs → Each IsSorted cs → Each IsTaken cs → Each IsSmallCommand cs → Each Fits cs
     → AreCommands (before ++ c ∷ []) → AreAnswers s bytes rs left end → finished left ≡ 0
     → bytes ≡ fed b (commands_text (before ++ c ∷ []) ++ sent_later) → bytes ++ unsent ≡ fed b (commands_text cs)
     → Items gotten items next → gotten ++ ungot ≡ fed e (texts_of rs) → Answers before items → Next c next ungot
-next_of [] c cs (item ∷ items) rs b e s end levels bytes left later unsent gotten ungot next at apart named follow sorted taken fits own answers none is whole heard got_is lawful = absurd lawful
-next_of (a ∷ before) c cs [] rs b e s end levels bytes left later unsent gotten ungot next at apart named follow sorted taken fits own answers none is whole heard got_is lawful = absurd lawful
-next_of [] c cs [] [] b e s end levels bytes left later unsent gotten ungot next at apart named follow sorted taken fits own answers none is whole heard got_is lawful =
+next_of [] c cs (item ∷ items) rs b e s end levels bytes left later unsent gotten ungot next at apart named follow sorted taken small fits own answers none is whole heard got_is lawful = absurd lawful
+next_of (a ∷ before) c cs [] rs b e s end levels bytes left later unsent gotten ungot next at apart named follow sorted taken small fits own answers none is whole heard got_is lawful = absurd lawful
+next_of [] c cs [] [] b e s end levels bytes left later unsent gotten ungot next at apart named follow sorted taken small fits own answers none is whole heard got_is lawful =
     absurd (some_left b c [] later bytes own is (ap finished (sym answers.0) ∙ none))
-next_of (a ∷ before) c cs (item ∷ items) [] b e s end levels bytes left later unsent gotten ungot next at apart named follow sorted taken fits own answers none is whole heard got_is lawful =
+next_of (a ∷ before) c cs (item ∷ items) [] b e s end levels bytes left later unsent gotten ungot next at apart named follow sorted taken small fits own answers none is whole heard got_is lawful =
     absurd (nothing_read e gotten ungot heard.0 item got_is heard.1)
-next_of [] c [] [] (r ∷ rs) b e s end levels bytes left later unsent gotten ungot next at apart named follow sorted taken fits own answers none is whole heard got_is lawful =
+next_of [] c [] [] (r ∷ rs) b e s end levels bytes left later unsent gotten ungot next at apart named follow sorted taken small fits own answers none is whole heard got_is lawful =
     absurd (nothing_read b bytes unsent answers.1 answers.2 whole answers.3)
-next_of (a ∷ before) c [] (item ∷ items) (r ∷ rs) b e s end levels bytes left later unsent gotten ungot next at apart named follow sorted taken fits own answers none is whole heard got_is lawful =
+next_of (a ∷ before) c [] (item ∷ items) (r ∷ rs) b e s end levels bytes left later unsent gotten ungot next at apart named follow sorted taken small fits own answers none is whole heard got_is lawful =
     absurd (nothing_read b bytes unsent answers.1 answers.2 whole answers.3)
-next_of [] c (d ∷ cs) [] (r ∷ rs) b e s end levels bytes left later unsent gotten ungot next at apart named follow sorted taken fits own answers none is whole heard got_is lawful =
+next_of [] c (d ∷ cs) [] (r ∷ rs) b e s end levels bytes left later unsent gotten ungot next at apart named follow sorted taken small fits own answers none is whole heard got_is lawful =
     let sent_so = sent_first b c [] later bytes answers.1 answers.2 own is answers.3 in
     let scripted = sent_first b d cs [] (bytes ++ unsent) (answers.1 ++ unsent) answers.2 named (whole ∙ ap (fed b) (sym (append_none (commands_text (d ∷ cs))))) (first_longer bytes unsent answers.2 answers.1 answers.3) in
     let done : IsDone d s.levels answers.0 r =
-    done_by d s answers.0 r (subst (λ ls. AreApart (declared_in ls)) (sym at) apart) named.0 (subst (λ ls. MayFollow ls d) (sym at) follow.0) sorted.0 taken.0 fits.0
+    done_by d s answers.0 r (subst (λ ls. AreApart (declared_in ls)) (sym at) apart) named.0 (subst (λ ls. MayFollow ls d) (sym at) follow.0) sorted.0 taken.0 small.0 fits.0
     (subst (λ ts. IsAnswer ts s r answers.0) scripted.0 answers.4) in
     record {
       feed = e;
@@ -153,17 +155,17 @@ next_of [] c (d ∷ cs) [] (r ∷ rs) b e s end levels bytes left later unsent g
       is = ap (λ x. x ++ ungot) heard ∙ got_is;
       lawful = same_lawful c d (item_of r) (sym sent_so.0 ∙ scripted.0) ∙ done.lawful;
     }
-next_of (a ∷ before) c (d ∷ cs) (item ∷ items) (r ∷ rs) b e s end levels bytes left later unsent gotten ungot next at apart named follow sorted taken fits own answers none is whole heard got_is lawful =
+next_of (a ∷ before) c (d ∷ cs) (item ∷ items) (r ∷ rs) b e s end levels bytes left later unsent gotten ungot next at apart named follow sorted taken small fits own answers none is whole heard got_is lawful =
     let sent_so = sent_first b a (before ++ c ∷ []) later bytes answers.1 answers.2 own is answers.3 in
     let scripted = sent_first b d cs [] (bytes ++ unsent) (answers.1 ++ unsent) answers.2 named (whole ∙ ap (fed b) (sym (append_none (commands_text (d ∷ cs))))) (first_longer bytes unsent answers.2 answers.1 answers.3) in
     let done : IsDone d s.levels answers.0 r =
-    done_by d s answers.0 r (subst (λ ls. AreApart (declared_in ls)) (sym at) apart) named.0 (subst (λ ls. MayFollow ls d) (sym at) follow.0) sorted.0 taken.0 fits.0
+    done_by d s answers.0 r (subst (λ ls. AreApart (declared_in ls)) (sym at) apart) named.0 (subst (λ ls. MayFollow ls d) (sym at) follow.0) sorted.0 taken.0 small.0 fits.0
     (subst (λ ts. IsAnswer ts s r answers.0) scripted.0 answers.4) in
     let reply : IsFirst (gotten ++ ungot) (item_of r) (10 ∷ texts_of rs) =
     subst (λ x. IsFirst x (item_of r) (10 ∷ texts_of rs)) (sym got_is) (first_fed e (reply_text r ++ texts_of rs) (item_of r) (10 ∷ texts_of rs) (reply_first r (texts_of rs) (short_line r done.short))) in
     let same = first_is_one (gotten ++ ungot) item (item_of r) (heard.0 ++ ungot) (10 ∷ texts_of rs) (first_longer gotten ungot item heard.0 heard.1) reply in
     next_of before c cs items rs true true answers.0 end (stack_after d levels) answers.1 left later unsent heard.0 ungot next
-    (done.levels_are ∙ ap (stack_after d) at) (subst (λ ls. AreApart (declared_in (stack_after d ls))) at done.apart) named.1 follow.1 sorted.1 taken.1 fits.1 own.1 answers.5 none
+    (done.levels_are ∙ ap (stack_after d) at) (subst (λ ls. AreApart (declared_in (stack_after d ls))) at done.apart) named.1 follow.1 sorted.1 taken.1 small.1 fits.1 own.1 answers.5 none
     sent_so.1 (scripted.1 ∙ ap (λ x. 10 ∷ x) (append_none (commands_text cs))) heard.2 same.1 lawful.1
 
 -- ---- so what comes next is not unlawful
@@ -250,18 +252,26 @@ texts_joined (c ∷ front) behind = ap (λ x. command_text c ++ x) (texts_joined
 
 module _ (failed : Bool) (script : List Command) (pieces : List Piece) (causes : List Cause) (checks : List Check) (well : IsWellFormed script) (sorted : Each IsSorted script) (taken : Each IsTaken script)
     (fits : Each Fits script) (tells : Tells failed script pieces checks) where
-  -- all that was sent begins the script's text
-  sent_begins : sent pieces ++ tells.unsent ≡ commands_text script
-  sent_begins =
-      ap (λ x. x ++ tells.unsent) tells.sent_is ∙ append_assoc (commands_text tells.answered) tells.begun tells.unsent
-      ∙ ap (λ x. commands_text tells.answered ++ x) tells.begun_is ∙ sym (texts_joined tells.answered tells.behind) ∙ ap commands_text (sym tells.all)
+  -- all that was sent begins the text of the commands of which something was sent
+  sent_begins : (few : FewWait script pieces) → sent pieces ++ few.unsent ≡ commands_text (few.answered ++ few.waiting)
+  sent_begins few =
+      ap (λ x. x ++ few.unsent) few.sent_is ∙ append_assoc (commands_text few.answered) few.begun few.unsent
+      ∙ ap (λ x. commands_text few.answered ++ x) few.begun_is ∙ sym (texts_joined few.answered few.waiting)
 
   next_by : IsByCompanion pieces causes → {Told : Wanted → List ℕ → Type 0} (s : Stops pieces Told) → (ungot : List ℕ) × Next s.command s.next ungot
   next_by by s =
-      let answers = answers_of by.replied.answering in (
+      let answers = answers_of by.replied.answering in
+      let few = tells.pace pieces [] (sym (append_none pieces)) in
+      let begun = few.answered ++ few.waiting in (
         by.ungot,
-        next_of s.before s.command script s.items answers.replies false false start by.state (empty_level ∷ []) (sent pieces) by.left s.sent_later tells.unsent (got pieces) by.ungot s.next
-            refl tt well.spelled well.in_order sorted taken fits s.spelled answers.are by.replied.none_left s.sent_is sent_begins (items_of (got pieces) s.items s.next s.heard) answers.text_is s.lawful,
+        next_of s.before s.command begun s.items answers.replies false false start by.state (empty_level ∷ []) (sent pieces) by.left s.sent_later few.unsent (got pieces) by.ungot s.next refl tt
+            (front_commands begun few.later (subst AreCommands few.all well.spelled))
+            (front_follow begun few.later (empty_level ∷ []) (subst (AllMayFollow (empty_level ∷ [])) few.all well.in_order))
+            (front_each IsSorted begun few.later (subst (Each IsSorted) few.all sorted))
+            (front_each IsTaken begun few.later (subst (Each IsTaken) few.all taken))
+            few.small
+            (front_each Fits begun few.later (subst (Each Fits) few.all fits))
+            s.spelled answers.are by.replied.none_left s.sent_is (sent_begins few) (items_of (got pieces) s.items s.next s.heard) answers.text_is s.lawful,
       )
 
   never_stops : RepliesByCompanion pieces causes → (Told : Wanted → List ℕ → Type 0) → ((c : Command) (next ungot : List ℕ) → Next c next ungot → Told (wanted_by c) next → ⊥) → Stops pieces Told → ⊥

@@ -2,10 +2,10 @@
 use Rattle.std.proofs.Common.{◌≡◌, ℕ, zero, suc, ◌++◌, List, [], ◌∷◌, map, length, drop, refl, ap, ap₂, ◌∙◌, sym, subst}
 use Rattle.std.proofs.lemmas.List.{map-append}
 use Rattle.vx_terms.specs.Terms.{Term}
-use Rattle.vx_terms.specs.Interpretations.{Interpretation, AllTrue, IsUnsatisfiable, as_bool}
+use Rattle.vx_terms.specs.Interpretations.{Interpretation, AllTrue, IsSatisfiable, IsUnsatisfiable, as_bool}
 use Rattle.vx_smt_meaning.specs.Commands.{Command, SetOption, SetLogic, DeclareSort, DeclareFun, Assert, Push, Pop, CheckSat, GetProof, Exit, Level, opened, stack_after, assertions_of, declared_in}
 use Rattle.vx_smt_meaning.specs.WellFormed.{sorts_in}
-use Rattle.vx_companion.proofs.Likes.{IsLike, there}
+use Rattle.vx_companion.proofs.Likes.{IsLike, there, back, there_renames, back_renames}
 use Rattle.vx_companion.proofs.ReadTerms.{read_declared}
 
 abbrev pub AllLike : List Term → List Term → Type 0
@@ -62,11 +62,21 @@ true_there : (us ts : List Term) (i : Interpretation) → AllLike us ts → AllT
 true_there [] [] i h all = tt
 true_there [] (t ∷ ts) i h all = absurd h
 true_there (u ∷ us) [] i h all = absurd h
-true_there (u ∷ us) (t ∷ ts) i h all = (ap as_bool (h.0.meaning i) ∙ all.0, true_there us ts i h.1 all.1)
+true_there (u ∷ us) (t ∷ ts) i h all = (ap as_bool (h.0.meaning (there i) i (there_renames i)) ∙ all.0, true_there us ts i h.1 all.1)
 
 -- what is read has no interpretation, so what was written has none
 pub none_there : (us ts : List Term) → AllLike us ts → IsUnsatisfiable us → IsUnsatisfiable ts
 none_there us ts h none i all = none (there i) (true_there us ts i h all)
+
+true_back : (us ts : List Term) (k : Interpretation) → AllLike us ts → AllTrue k us → AllTrue (back k) ts
+true_back [] [] k h all = tt
+true_back [] (t ∷ ts) k h all = absurd h
+true_back (u ∷ us) [] k h all = absurd h
+true_back (u ∷ us) (t ∷ ts) k h all = (ap as_bool (sym (h.0.meaning k (back k) (back_renames k))) ∙ all.0, true_back us ts k h.1 all.1)
+
+-- and where it has one, what was written has one
+pub some_there : (us ts : List Term) → AllLike us ts → IsSatisfiable us → IsSatisfiable ts
+some_there us ts h some = (back some.0, true_back us ts some.0 h some.1)
 
 -- ---- what commands do to them
 

@@ -138,10 +138,10 @@ module _ (scope : Scope) where
   -- ---- literals
 
   like_number : (z : ℤ) → IsLike (Number z) (Number z)
-  like_number z = record { sort = refl; meaning = λ i. refl }
+  like_number z = record { sort = refl; meaning = λ k i r. refl }
 
   like_part : (a : Fraction) → IsLike (Part a) (Part a)
-  like_part a = record { sort = refl; meaning = λ i. refl }
+  like_part a = record { sort = refl; meaning = λ k i r. refl }
 
   wide_numeral : (n : ℕ) → number_below (2 ^ 127) (written.numeral n) ≡ None → Refuses scope (Atom kinds.Numeral (written.numeral n) ∷ [])
   wide_numeral n wide = refused_atom kinds.Numeral (written.numeral n) faults.Wide (ap (λ o. or_fault faults.Wide o >>= λ m. Ok (Number (pos m))) wide)

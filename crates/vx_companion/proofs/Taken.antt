@@ -5,12 +5,15 @@ use Rattle.vx_sexp.specs.declared.token.Token.{Token}
 use Rattle.vx_sexp.specs.declared.token.Token.TheVariants.{Close}
 use Rattle.vx_sexp.specs.First.{deepest}
 use Rattle.vx_terms.specs.Sorts.{Sort}
+use Rattle.vx_terms.specs.Terms.{Term, Truth, Number, Part, Constant, Apply, Not, Binary, Ite, AllOf, SomeOf, Terms, NoTerms, MoreTerms}
 use Rattle.vx_smt_meaning.specs.Commands.{Command, SetOption, SetLogic, DeclareSort, DeclareFun, Assert, Push, Pop, CheckSat, GetProof, Exit, Declared, Level, stack_after, declared_in}
 use Rattle.vx_smt_meaning.specs.Names.{IsCommand}
 use Rattle.vx_smt_meaning.specs.WellFormed.{MayFollow}
 use Rattle.vx_smt_meaning.specs.Words.{word, sort_word, sorts_tokens, command_tokens}
 use Rattle.vx_smt_meaning.specs.Dialogues.{is_lawful_to}
-use Rattle.cs_commands.specs.Laws.{AreApart, IsPlain}
+use Rattle.vx_smt_text.specs.Small.{IsSmallTerm, AreSmallTerms, IsSmallCommand}
+use Rattle.vx_smt_text.specs.Shaped.{IsShaped, AreShaped}
+use Rattle.cs_commands.specs.Laws.{AreApart, IsReadable, AreReadable, IsPlain}
 use Rattle.cs_commands.proofs.Apart.{stay_apart}
 use Rattle.cs_commands.proofs.WrittenCommands.{behind_sorts, written_back}
 use Rattle.cs_session.specs.declared.reply.Reply.{Reply}
@@ -25,17 +28,37 @@ use Rattle.vx_companion.proofs.Lines.{item_of, is_short}
 use Rattle.vx_companion.proofs.ReadCommands.{same_ok}
 use Rattle.vx_companion.proofs.Answered.{IsAnswer}
 
-plain : (c : Command) → IsSorted c → IsTaken c → IsPlain c
-plain (SetOption x b) sorted taken = tt
-plain (SetLogic x) sorted taken = tt
-plain (DeclareSort x) sorted taken = sorted
-plain (DeclareFun d) sorted taken = taken
-plain (Assert t) sorted taken = (sorted, taken.0)
-plain (Push n) sorted taken = sorted
-plain (Pop n) sorted taken = sorted
-plain CheckSat sorted taken = tt
-plain GetProof sorted taken = tt
-plain Exit sorted taken = tt
+-- ---- it is read
+
+mutual
+  readable : (t : Term) → IsSmallTerm t → IsShaped t → IsReadable t
+  readable (Truth b) small shaped = tt
+  readable (Number z) small shaped = shaped
+  readable (Part a) small shaped = (shaped, small)
+  readable (Constant f a) small shaped = small
+  readable (Apply f a NoTerms) small shaped = absurd shaped
+  readable (Apply f a (MoreTerms t ts)) small shaped = (small.0, refl, (readable t small.1.0 shaped.0, all_readable ts small.1.1 shaped.1))
+  readable (Not t) small shaped = readable t small shaped
+  readable (Binary o t u) small shaped = (readable t small.0 shaped.0, readable u small.1 shaped.1)
+  readable (Ite c t u) small shaped = (readable c small.0 shaped.0, readable t small.1 shaped.1, readable u small.2 shaped.2)
+  readable (AllOf ts) small shaped = (shaped.0, all_readable ts small shaped.1)
+  readable (SomeOf ts) small shaped = (shaped.0, all_readable ts small shaped.1)
+
+  all_readable : (ts : Terms) → AreSmallTerms ts → AreShaped ts → AreReadable ts
+  all_readable NoTerms small shaped = tt
+  all_readable (MoreTerms t ts) small shaped = (readable t small.0 shaped.0, all_readable ts small.1 shaped.1)
+
+plain : (c : Command) → IsSorted c → IsTaken c → IsSmallCommand c → IsPlain c
+plain (SetOption x b) sorted taken small = tt
+plain (SetLogic x) sorted taken small = tt
+plain (DeclareSort x) sorted taken small = sorted
+plain (DeclareFun d) sorted taken small = small
+plain (Assert t) sorted taken small = (sorted, readable t small taken.0)
+plain (Push n) sorted taken small = sorted
+plain (Pop n) sorted taken small = sorted
+plain CheckSat sorted taken small = tt
+plain GetProof sorted taken small = tt
+plain Exit sorted taken small = tt
 
 -- ---- it is not too deep
 
@@ -146,12 +169,12 @@ pub record IsDone (c : Command) (levels : List Level) (u : State) (r : Reply) : 
   pub levels_are : u.levels ≡ stack_after c levels
   pub apart : AreApart (declared_in (stack_after c levels))
 
-pub done_by : (c : Command) (s u : State) (r : Reply) → AreApart (declared_in s.levels) → IsCommand c → MayFollow s.levels c → IsSorted c → IsTaken c → Fits c
+pub done_by : (c : Command) (s u : State) (r : Reply) → AreApart (declared_in s.levels) → IsCommand c → MayFollow s.levels c → IsSorted c → IsTaken c → IsSmallCommand c → Fits c
     → IsAnswer (command_tokens c) s r u → IsDone c s.levels u r
-done_by c s u r apart name follows sorted taken fits (inl done) =
-    let meant = (written_back s.levels c apart name follows (plain c sorted taken)).meant in
+done_by c s u r apart name follows sorted taken small fits (inl done) =
+    let meant = (written_back s.levels c apart name follows (plain c sorted taken small)).meant in
     let same : done.0 ≡ c = same_ok (sym done.1 ∙ meant) in
     let so = done_so c s u r fits follows (subst (λ d. Does d s r u) same done.2) in
     record { short = done_short c s u r fits (subst (λ d. Does d s r u) same done.2); lawful = so.0; levels_are = so.1; apart = stay_apart s.levels c apart follows }
-done_by c s u r apart name follows sorted taken fits (inr fault) =
-    absurd (fault.3 c (shallow c taken) (written_back s.levels c apart name follows (plain c sorted taken)).meant)
+done_by c s u r apart name follows sorted taken small fits (inr fault) =
+    absurd (fault.3 c (shallow c taken) (written_back s.levels c apart name follows (plain c sorted taken small)).meant)

@@ -2,23 +2,22 @@
 use Rattle.std.specs.Prelude.{⊤, ℕ, ◌≤◌, Bool, List}
 use Rattle.vx_terms.specs.Interpretations.{Each}
 use Rattle.vx_sexp.specs.First.{deepest}
-use Rattle.vx_smt_meaning.specs.Commands.{Command, DeclareFun, Assert, Push, GetProof}
+use Rattle.vx_smt_meaning.specs.Commands.{Command, Assert, Push, GetProof}
 use Rattle.vx_smt_meaning.specs.Dialogues.{Check}
 use Rattle.vx_smt_meaning.specs.WellFormed.{IsWellFormed}
 use Rattle.vx_smt_meaning.specs.Words.{command_tokens}
+use Rattle.vx_smt_text.specs.Shaped.{IsShaped}
 use Rattle.vx_ends.specs.declared.piece.Piece.{Piece}
 use Rattle.vx_dialogue.specs.Items.{IsGarbled, IsRefused}
 use Rattle.vx_dialogue.specs.Stops.{Stops}
 use Rattle.vx_dialogue.specs.History.{Tells}
-use Rattle.cs_commands.specs.Laws.{IsSmallSymbol, IsReadable}
 use Rattle.cs_answer.specs.declared.answer.Cause.{Cause}
 use Rattle.vx_companion.specs.Companion.{RepliesByCompanion}
 use Rattle.vx_companion.specs.Right.{IsSorted}
 
--- It takes assertions of at most 4096 lists within one another, whose numbers stay below 2^127; the numbers of symbols stay below 2^32, of variables below 2^64.
+-- It takes assertions of at most 4096 lists within one another, which can be read back. That the numbers of symbols fit their types, the record of a link tells by itself.
 abbrev pub IsTaken : Command → Type 0
-IsTaken (DeclareFun d) = IsSmallSymbol d.symbol
-IsTaken (Assert t) = IsReadable t × (deepest 0 (command_tokens (Assert t)) ≤ 4096)
+IsTaken (Assert t) = IsShaped t × (deepest 0 (command_tokens (Assert t)) ≤ 4096)
 IsTaken c = ⊤
 
 -- at most 256 levels are opened at once, and no proof is asked for

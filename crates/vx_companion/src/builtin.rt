@@ -63,7 +63,8 @@ fn reply_all<'a>(
     causes: &mut Vec<Cause>,
     bytes: &'a [u8],
 ) -> Result<&'a [u8], AllocError>
-    ensures answering { IfOk result (λ rest. (all front : List ℕ) (before : List Cause) → Answering all (front ++ replies.old.items) bytes.now (before ++ causes.old.items) (state session.old) → Answering all (front ++ replies.new.items) rest.now (before ++ causes.new.items) (state session.new)) }
+    ensures answering { IfOk result (λ rest. (all front : List ℕ) (before : List Cause) → Answering all (front ++ replies.old.items) bytes.now (before ++ causes.old.items) (state session.old)
+        → Answering all (front ++ replies.new.items) rest.now (before ++ causes.new.items) (state session.new)) }
     ensures keeps_up { IfOk result (λ rest. (all front : List ℕ) → KeepsUp all bytes.now (front ++ replies.old.items) → KeepsUp all rest.now (front ++ replies.new.items)) }
     ensures none_left { IfOk result (λ rest. finished rest.now ≡ 0) }
 {

@@ -2,8 +2,8 @@
 ghost use Rattle.vx_companion.specs.Right.{CompanionIsRight};
 ghost use Rattle.vx_companion.specs.Lawful.{CompanionIsLawful};
 
-/// Each unsat that a record of the link tells is right.
-pub fn unsat_is_right()
+/// Each unsat that a record of the link tells is right, and each sat is: some interpretation makes all true that was asserted.
+pub fn answers_are_right()
     ensures { CompanionIsRight }
 {}
 

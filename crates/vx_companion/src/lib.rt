@@ -5,4 +5,4 @@ mod builtin;
 mod laws;
 
 pub use builtin::{Builtin, CompanionLink, EndedLink};
-pub use laws::{replies_are_lawful, unsat_is_right};
+pub use laws::{answers_are_right, replies_are_lawful};

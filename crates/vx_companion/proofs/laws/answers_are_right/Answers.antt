@@ -1,5 +1,5 @@
 use Rattle.vx_companion.proofs.Rightly.{companion_right}
-use Rattle.vx_companion.proofs.laws.unsat_is_right.Goals as goal
+use Rattle.vx_companion.proofs.laws.answers_are_right.Goals as goal
 
 pub returns : goal.returns
 returns c = companion_right
