@@ -2,10 +2,12 @@
 use Rattle.std.proofs.Common.{◌≡◌, inl, inr, ◌⊎◌, ℕ, zero, suc, ◌+◌, ◌||◌, nat_eq, Bool, true, false, cond, ◌++◌, ◌∷◌, [], List, Option, Some, None, length, take, drop, slice_get, refl, ap, ◌∙◌, sym, subst, append_assoc, length-append, arith, eq-eqb, eqb-true}
 use Rattle.std.specs.Prelude.{if◌then◌else◌}
 use Rattle.vx_ast.specs.declared.MemberId.{MemberId}
+use Rattle.vx_ast.specs.declared.Place.{Place}
 use Rattle.vx_ast.specs.Syntax.{Name, same_name, Program, Member, Kind, IsField, IsPredicate, IsFunction, IsMethod, member_named}
 use Rattle.vx_terms.specs.Interpretations.{Each}
 use Rattle.vx_smt_meaning.specs.Dialogues.{Check}
 use Rattle.vx_smt_meaning.specs.declared.reply.Reply.{Reply}
+use Rattle.vx_smt_meaning.specs.declared.reply.Reply.TheVariants.{Sat}
 use Rattle.vx_ends.specs.declared.piece.Ending.{Ending}
 use Rattle.vx_resolved.specs.Numbers.{number_named}
 use Rattle.vx_report.specs.declared.run.Cause.{Cause}
@@ -13,10 +15,12 @@ use Rattle.vx_report.specs.declared.run.Verdict.{Verdict}
 use Rattle.vx_report.specs.declared.run.Verdict.TheVariants as verdict
 use Rattle.vx_report.specs.declared.run.MemberRun.{MemberRun}
 use Rattle.vx_report.specs.Reports.{is_faulted}
-use Rattle.vx_rules.specs.Trees.{Ending as Ends, Passed, walk}
+use Rattle.vx_rules.specs.Trees.{Ending as Ends, Passed, Failed, walk}
+use Rattle.vx_rules.specs.declared.code.Code.{Code}
+use Rattle.vx_rules.specs.Codes.{code}
 use Rattle.vx_rules.specs.Members.{tree}
 use Rattle.vx_machine.specs.Runs.{tree_of, member_tree}
-use Rattle.vx_whole.specs.Closure.{InClosure}
+use Rattle.vx_types.specs.Closure.{InClosure}
 use Rattle.vx_sound.specs.Law.{Passes}
 use Rattle.vx_law.specs.Law.{MembersAreSound}
 use Rattle.vx_settled.proofs.TypedNames.{same_is}
@@ -49,10 +53,11 @@ own_sequence r done own rest first count =
     ap (λ k. take k (drop r.first (done ++ (own ++ rest)))) (sym count)
     ∙ (ap (λ k. take (length own) (drop k (done ++ (own ++ rest)))) first ∙ (ap (take (length own)) (drop_front done (own ++ rest)) ∙ take_front own rest))
 
--- a run's checks are its walk's, and where its verdict says that the walk passed, it did
+-- a run's checks are its walk's, and where its verdict says that the walk passed, or failed by a sat, it did
 pub record IsWalked (p : Program) (all : List Check) (r : MemberRun) : Type 0 where
   pub checks : AreChecksOf (walk_of p r.member.0 (sequence_of r all)).answered (sequence_of r all)
   pub passed : has_passed r.verdict ≡ true → (walk_of p r.member.0 (sequence_of r all)).ending ≡ Passed
+  pub failed : (at : Place) (c : Code) → r.verdict ≡ verdict.Failed at c Sat → (walk_of p r.member.0 (sequence_of r all)).ending ≡ Failed at (code c) Sat
 
 passed_by : (C : Cause → Type 0) (e : Ends) (asked : ℕ) (v : Verdict) → IsVerdictOf C e asked v → has_passed v ≡ true → e ≡ Passed
 passed_by C e asked verdict.Verified has passed = has
@@ -65,6 +70,7 @@ told_walked : (p : Program) (C : Cause → Type 0) (all own : List Check) (r : M
 told_walked p C all own r mine told = record {
   checks = subst (λ cs. AreChecksOf (walk_of p r.member.0 cs).answered cs) (sym mine) told.checks;
   passed = λ has. subst (λ cs. (walk_of p r.member.0 cs).ending ≡ Passed) (sym mine) (passed_by C (walk_of p r.member.0 own).ending (length own) r.verdict told.verdict has);
+  failed = λ at c is. subst (λ cs. (walk_of p r.member.0 cs).ending ≡ Failed at (code c) Sat) (sym mine) (subst (IsVerdictOf C (walk_of p r.member.0 own).ending (length own)) is told.verdict);
 }
 
 module _ (p : Program) (before now : List Ending) (f g : ℕ) (all : List Check) where
@@ -83,15 +89,15 @@ module _ (p : Program) (before now : List Ending) (f g : ℕ) (all : List Check)
 -- ---- members by number
 
 -- the first member of a name, where numbers go from `start` on
-record Numbered (start : ℕ) (p : Program) (y : Name) (l : Kind) : Type 0 where
-  number : ℕ
-  member : Member
-  found : number_named start p y ≡ Some (start + number)
-  at : slice_get p number ≡ Some member
-  kind : member.kind ≡ l
-  name : member.name ≡ y
+pub record Numbered (start : ℕ) (p : Program) (y : Name) (l : Kind) : Type 0 where
+  pub number : ℕ
+  pub member : Member
+  pub found : number_named start p y ≡ Some (start + number)
+  pub at : slice_get p number ≡ Some member
+  pub kind : member.kind ≡ l
+  pub name : member.name ≡ y
 
-numbered : (start : ℕ) (p : Program) (y : Name) (l : Kind) → member_named p y ≡ Some l → Numbered start p y l
+pub numbered : (start : ℕ) (p : Program) (y : Name) (l : Kind) → member_named p y ≡ Some l → Numbered start p y l
 numbered start [] y l e = (cc)
 numbered start (m ∷ p) y l e = go (same_name y m.name) refl e (numbered (suc start) p y l)
   where
@@ -122,7 +128,7 @@ numbered start (m ∷ p) y l e = go (same_name y m.name) refl e (numbered (suc s
         }
 
 -- a member that has a line has a run
-line_in : (start : ℕ) (p : Program) (j : ℕ) (x : Member) → slice_get p j ≡ Some x → has_line x.kind ≡ true → IsIn (start + j) (lines_from start p)
+pub line_in : (start : ℕ) (p : Program) (j : ℕ) (x : Member) → slice_get p j ≡ Some x → has_line x.kind ≡ true → IsIn (start + j) (lines_from start p)
 line_in start [] j x at has = (cc)
 line_in start (m ∷ p) zero x at has =
     let same : m ≡ x = some_is at in
@@ -146,13 +152,13 @@ abbrev replies_at : List MemberRun → List Check → ℕ → List Reply
 replies_at [] all b = []
 replies_at (r ∷ runs) all b = if nat_eq r.member.0 b then replies_to (sequence_of r all) else replies_at runs all b
 
-record RunOf (runs : List MemberRun) (all : List Check) (b : ℕ) : Type 0 where
-  run : MemberRun
-  inside : IsIn run runs
-  member : run.member.0 ≡ b
-  replies : replies_at runs all b ≡ replies_to (sequence_of run all)
+pub record RunOf (runs : List MemberRun) (all : List Check) (b : ℕ) : Type 0 where
+  pub run : MemberRun
+  pub inside : IsIn run runs
+  pub member : run.member.0 ≡ b
+  pub replies : replies_at runs all b ≡ replies_to (sequence_of run all)
 
-run_of : (runs : List MemberRun) (all : List Check) (b : ℕ) → IsIn b (members_of runs) → RunOf runs all b
+pub run_of : (runs : List MemberRun) (all : List Check) (b : ℕ) → IsIn b (members_of runs) → RunOf runs all b
 run_of [] all b inside = absurd inside
 run_of (r ∷ runs) all b inside = go (nat_eq r.member.0 b) refl inside (run_of runs all b)
   where

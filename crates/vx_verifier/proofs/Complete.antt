@@ -21,7 +21,7 @@ use Rattle.vx_verifier.specs.Causes.{SomeEnding, EachEnding, HasCauseOf, NoCount
 use Rattle.vx_report.specs.Reports.{AreNamed}
 use Rattle.vx_ast.specs.Syntax.{Member}
 use Rattle.vx_ast.specs.declared.MemberId.{MemberId}
-use Rattle.vx_whole.specs.Closure.{itself}
+use Rattle.vx_types.specs.Closure.{itself}
 use Rattle.vx_closure.specs.Leads.{LeadsTo}
 use Rattle.vx_resting.specs.Resting.{has_passed, HoldsUp, IsHeldUpAs, AreRested}
 use Rattle.vx_verifier.specs.Sequences.{IsIn}

@@ -1,18 +1,18 @@
 -- The script of fine questions is well formed, behind the declarations of functions' symbols. That of one question sent whole is so, and by it (vx_dialogue) that of a dialogue.
 use Rattle.std.proofs.Common.{◌≡◌, ◌++◌, ◌≤◌, ℕ, suc, Bool, true, false, List, [], ◌∷◌, map, refl, ap, ◌∙◌, sym, subst, le_refl, lt_irrefl, ne_eqb, arith, if◌then◌else◌}
-use Rattle.vx_terms.specs.Sorts.{Sort, IntSort, BoolSort, RealSort, RefSort, SnapSort, OtherSort, Symbol, Standard, Function, Variable, Named, same_symbol}
-use Rattle.vx_terms.specs.Terms.{Term, Truth, Number, Part, Constant, Apply, Not, Binary, Ite, AllOf, SomeOf, Terms, NoTerms, MoreTerms, sort_of}
+use Rattle.vx_terms.specs.Sorts.{Sort, IntSort, BoolSort, RealSort, RefSort, SnapSort, OtherSort, Symbol, Function, Variable, same_symbol}
+use Rattle.vx_terms.specs.Terms.{Term, Truth, sort_of}
 use Rattle.vx_terms.specs.Formed.{Formed, truth}
 use Rattle.vx_terms.specs.Interpretations.{Each}
 use Rattle.vx_terms.specs.Build.{negate}
 use Rattle.vx_elements.proofs.Lists.{each_map}
-use Rattle.vx_smt_meaning.specs.Commands.{Command, Declared, Assert, Push, Level, empty_level, stack_after, stack_from, declared_in}
+use Rattle.vx_smt_meaning.specs.Commands.{Declared, Assert, Push, Level, empty_level, stack_from, declared_in}
 use Rattle.vx_smt_meaning.specs.Names.{AreNames, AreCommands}
-use Rattle.vx_smt_meaning.specs.Symbols.{Declares, UsesDeclared}
+use Rattle.vx_smt_meaning.specs.Symbols.{Declares}
 use Rattle.vx_smt_meaning.specs.Standard.{standard_symbols}
 use Rattle.vx_smt_meaning.specs.Over.{IsOver}
 use Rattle.vx_smt_meaning.specs.WellFormed.{names, sorts_in, knows_sort, AllMayFollow, IsWellFormed}
-use Rattle.vx_dialogue.specs.Symbols.{variable, declares, with_variable, with_symbol, with_variables, with_all_variables, with_listed, symbols_of}
+use Rattle.vx_dialogue.specs.Symbols.{with_listed, symbols_of}
 use Rattle.vx_dialogue.specs.Preamble.{declarations, front, preamble}
 use Rattle.vx_dialogue.specs.Askable.{AreTurns}
 use Rattle.vx_dialogue.specs.Scripts.{ScopedTurn, plain, script}
@@ -21,7 +21,9 @@ use Rattle.vx_dialogue.proofs.Lists.{none_more, stack_append}
 use Rattle.vx_dialogue.proofs.Levels.{declared_level, asserted_level}
 use Rattle.vx_dialogue.proofs.Whole.{assertions, question}
 use Rattle.vx_dialogue.proofs.Scoped.{scoped_well_formed}
-use Rattle.vx_verifier.proofs.Declared.{Includes, AreVariables, in_pushed, over_includes, question_declared, question_variables}
+use Rattle.vx_dialogue.proofs.Follows.{follow_join}
+use Rattle.vx_dialogue.proofs.Declared.{Includes, AreVariables, in_pushed, over_includes, question_declared, question_variables}
+use Rattle.vx_dialogue.proofs.NewNames.{AreNew, new_term, new_path, assertions_follow}
 use Rattle.vx_dialogue.proofs.Steady.{commands_join}
 use Rattle.vx_live.specs.Live.{IsBuiltIn}
 use Rattle.vx_live.proofs.Nameless.{IsNameless}
@@ -29,12 +31,6 @@ use Rattle.vx_verifier.proofs.Sorted.{IsFine}
 use Rattle.vx_verifier.proofs.FunctionSymbols.{AreSymbols, symbols_spelled}
 use Rattle.vx_verifier.proofs.Nameless.{nameless_names, path_names, declared_question}
 use Rattle.vx_verifier.proofs.Steady.{begun_named}
-
--- ---- one list behind another
-
-follow_join : (levels : List Level) (xs ys : List Command) → AllMayFollow levels xs → AllMayFollow (stack_from levels xs) ys → AllMayFollow levels (xs ++ ys)
-follow_join levels [] ys e f = f
-follow_join levels (c ∷ xs) ys e f = (e.0, follow_join (stack_after c levels) xs ys e.1 f)
 
 -- ---- the preamble
 
@@ -69,58 +65,6 @@ functions_follow n l levels (d ∷ ds) are unseen known = (
   functions_follow (suc n) (record l { symbols = d ∷ l.symbols }) levels ds are.1
       (λ k above. behind_last d (declared_in (l ∷ levels)) n (Function k) are.0.symbol (other_number n k above) (unseen k (let h = above in omega arith))) known,
 )
-
--- ---- each v is declared once
-
--- none is among those before it
-abbrev AreNew : List Declared → List Declared → Type 0
-AreNew seen [] = Unit {0}
-AreNew seen (d ∷ ds) = (names seen d.symbol ≡ false) × AreNew (d ∷ seen) ds
-
-if_none : (a b : Bool) → (if a then true else b) ≡ false → (a ≡ false) × (b ≡ false)
-if_none true b e = absurd (cc)
-if_none false b e = (refl, e)
-
-new_more : (seen ds : List Declared) (n : ℕ) (a : Sort) → names seen (Variable n) ≡ false → declares ds n ≡ false → AreNew seen ds → AreNew seen (ds ++ variable n a ∷ [])
-new_more seen [] n a unseen none new = (unseen, tt)
-new_more seen (d ∷ ds) n a unseen none new =
-    let parts = if_none (same_symbol d.symbol (Variable n)) (declares ds n) none in
-    (new.0, new_more (d ∷ seen) ds n a (rw parts.0 unseen) parts.1 new.1)
-
-module _ (seen : List Declared) (unseen : (n : ℕ) → names seen (Variable n) ≡ false) where
-  new_variable : (ds : List Declared) (n : ℕ) (a : Sort) → AreNew seen ds → AreNew seen (with_variable ds n a)
-  new_variable ds n a new = by_case (declares ds n) refl
-    where
-      by_case : (b : Bool) → declares ds n ≡ b → AreNew seen (if b then ds else (ds ++ variable n a ∷ []))
-      by_case true e = new
-      by_case false e = new_more seen ds n a (unseen n) e new
-
-  new_symbol : (ds : List Declared) (f : Symbol) (a : Sort) → AreNew seen ds → AreNew seen (with_symbol ds f a)
-  new_symbol ds (Standard n) a new = new
-  new_symbol ds (Function n) a new = new
-  new_symbol ds (Variable n) a new = new_variable ds n a new
-  new_symbol ds (Named x) a new = new
-
-  mutual
-    new_term : (t : Term) (ds : List Declared) → AreNew seen ds → AreNew seen (with_variables ds t)
-    new_term (Truth b) ds new = new
-    new_term (Number z) ds new = new
-    new_term (Part a) ds new = new
-    new_term (Constant f a) ds new = new_symbol ds f a new
-    new_term (Apply f a ts) ds new = new_terms ts ds new
-    new_term (Not t) ds new = new_term t ds new
-    new_term (Binary o t u) ds new = new_term u (with_variables ds t) (new_term t ds new)
-    new_term (Ite c t u) ds new = new_term u (with_variables (with_variables ds c) t) (new_term t (with_variables ds c) (new_term c ds new))
-    new_term (AllOf ts) ds new = new_terms ts ds new
-    new_term (SomeOf ts) ds new = new_terms ts ds new
-
-    new_terms : (ts : Terms) (ds : List Declared) → AreNew seen ds → AreNew seen (with_all_variables ds ts)
-    new_terms NoTerms ds new = new
-    new_terms (MoreTerms t ts) ds new = new_terms ts (with_variables ds t) (new_term t ds new)
-
-  new_path : (path : List Term) (ds : List Declared) → AreNew seen ds → AreNew seen (with_listed ds path)
-  new_path [] ds new = new
-  new_path (t ∷ path) ds new = new_path path (with_variables ds t) (new_term t ds new)
 
 -- ---- what the preamble leaves
 
@@ -184,12 +128,6 @@ declarations_follow sorts l levels (d ∷ ds) variables built new known = (
   },
   declarations_follow sorts (record l { symbols = d ∷ l.symbols }) levels ds variables.1 built new.1 known,
 )
-
-assertions_follow : (l : Level) (levels : List Level) (ts : List Term) → Each (λ (t : Term). sort_of t ≡ BoolSort) ts → Each (UsesDeclared (declared_in (l ∷ levels))) ts
-    → AllMayFollow (l ∷ levels) (assertions ts)
-assertions_follow l levels [] bools declared = tt
-assertions_follow l levels (t ∷ ts) bools declared =
-    (record { bool = bools.0; declared = declared.0 }, assertions_follow (record l { assertions = t ∷ l.assertions }) levels ts bools.1 declared.1)
 
 module _ (functions : List Declared) where
   -- it is sent whole, behind what the preamble leaves

@@ -5,7 +5,9 @@ mod Children
 pub mod Said
 mod Rested
 mod Closures
+mod Real
 mod Complete
+mod WholeRuns
 mod Members
 mod Lines
 mod Questions
@@ -16,6 +18,5 @@ mod Spelled
 pub mod Askable
 mod Sorted
 mod FunctionSymbols
-mod Declared
 mod Fit
 mod Standing

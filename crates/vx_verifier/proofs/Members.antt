@@ -17,6 +17,8 @@ use Rattle.vx_ends.specs.declared.piece.Ending.{Ending}
 use Rattle.vx_report.specs.declared.run.MemberRun.{MemberRun}
 use Rattle.vx_report.specs.Reports.{AreNamed, is_faulted, is_resting}
 use Rattle.vx_law.specs.Law.{MembersAreSound}
+use Rattle.vx_real.specs.Law.{RealLaw}
+use Rattle.vx_runs.specs.Law.{WholeRunLaw}
 use Rattle.vx_verifier.specs.declared.lane.Child.{Child}
 use Rattle.vx_verifier.specs.Causes.{HasCauseOf}
 use Rattle.vx_verifier.specs.Headline.{IsWhole, IsTold, AreTold, IsRecorded, IsSpentAfter, member_turns, turns_of, members_of, Headline, has_question, some_ask, lost_after}
@@ -26,6 +28,8 @@ use Rattle.vx_verifier.proofs.Children.{handed_itself, cause_earlier}
 use Rattle.vx_verifier.proofs.Runs.{told_later, runs_later, runs_more, turns_more}
 use Rattle.vx_verifier.proofs.Complete.{complete}
 use Rattle.vx_verifier.proofs.Closures.{are_walked, sound}
+use Rattle.vx_verifier.proofs.Real.{real}
+use Rattle.vx_verifier.proofs.WholeRuns.{keeps_whole_runs}
 use Rattle.vx_verifier.proofs.Rested.{all_told, turns_rest, lost_rests, members_rest, named_rest}
 use Rattle.vx_resting.specs.Resting.{AreLater, AreRested, NoneRests}
 use Rattle.vx_verifier.proofs.Askable.{AllAsk, turns_ask}
@@ -105,11 +109,11 @@ module _ {L : Type 0} (dialogue : L → List Piece) (functions : List Declared) 
       }
 
 -- the child is handed back
-pub headline : {L : Type 0} (law : MembersAreSound) (dialogue : L → List Piece) (p : Program) (whole : IsWhole p) (before mid new : List Ending) (f g h : ℕ) (child : Child L) (asked : ℕ) (own runs : List MemberRun) → members_of own ≡ lines p → AreNamed p own
+pub headline : {L : Type 0} (law : MembersAreSound) (real_law : RealLaw) (runs_law : WholeRunLaw) (dialogue : L → List Piece) (p : Program) (whole : IsWhole p) (before mid new : List Ending) (f g h : ℕ) (child : Child L) (asked : ℕ) (own runs : List MemberRun) → members_of own ≡ lines p → AreNamed p own
     → AreLater own runs → AreRested p runs → Executes dialogue (function_symbols p) p before mid f g child asked own
     → ((turns : List Turn) (checks : List Check) → Hears dialogue (function_symbols p) before mid child turns checks → Records (function_symbols p) (is_lost child) before new turns checks)
     → Later mid new → g ≤ h → ((k : ℕ) → AllAsk (IsFine (function_symbols p)) (member_tree p k)) → Headline p before new f h runs
-headline law dialogue p whole before mid new f g h child asked own runs each named rest rested so_far end later after fine =
+headline law real_law runs_law dialogue p whole before mid new f g h child asked own runs each named rest rested so_far end later after fine =
     let functions = function_symbols p in
     let handed = later mid (handed_itself mid) in
     let checks = so_far.checks in
@@ -122,6 +126,7 @@ headline law dialogue p whole before mid new f g h child asked own runs each nam
     let asked : AreTurns (IsFine functions) (map plain recorded.0) =
     subst (AreTurns (IsFine functions)) (sym recorded.1) (turns_ask (IsFine functions) p before new f h fine false 0 own checks own_told) in
     let walked = are_walked p before new f h checks false 0 runs [] checks refl refl told in
+    let safe = sound law p whole checks runs walked each_rested rested in
     record {
       checks = checks;
       turns = recorded.0;
@@ -132,6 +137,8 @@ headline law dialogue p whole before mid new f g h child asked own runs each nam
       each = each_rested;
       told = told;
       rested = rested;
-      sound = sound law p whole checks runs walked each_rested rested;
+      sound = safe;
+      real = real real_law p whole checks runs walked;
+      whole_runs = keeps_whole_runs runs_law p whole runs checks each_rested safe;
       complete = complete p before new f h runs checks told rested (named_rest p own runs rest named);
     }

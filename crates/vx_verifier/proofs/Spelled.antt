@@ -11,7 +11,7 @@ use Rattle.vx_elements.proofs.Lists.{each_map}
 use Rattle.vx_smt_meaning.specs.Commands.{Declared}
 use Rattle.vx_rules.specs.Trees.{Question, Tree, End, Impossible, On, Step, Ask, Probe, Fork}
 use Rattle.vx_machine.specs.Runs.{tree_of, member_tree}
-use Rattle.vx_whole.specs.Premises.{IsTypedProgram}
+use Rattle.vx_types.specs.Premises.{IsTypedProgram}
 use Rattle.vx_live.specs.Functions.{function_symbols}
 use Rattle.vx_live.specs.Live.{IsLive, AllLive}
 use Rattle.vx_live.proofs.Nameless.{negate_nameless, condition_nameless, path_nameless}

@@ -1,14 +1,16 @@
 -- What the runs of a program's members promise: each verdict is that of the walk over the replies that the record of
 -- the child's link tells, and a member that is verified by right replies, its own and those of the members that it leads to,
--- fails at no place.
+-- fails at no place; and a method of fields, loops and calls that failed by a right sat fails at the place that is told.
 use Rattle.std.specs.Prelude.{◌≡◌, ◌⊎◌, ℕ, ◌+◌, ◌<◌, ◌≤◌, ◌||◌, ⊤, Bool, true, false, List, [], ◌∷◌, ◌++◌, Some, length, map, take, drop, slice_get, if◌then◌else◌}
 use Rattle.std.specs.List.{list_any}
-use Rattle.vx_ast.specs.Syntax.{Program, Member}
+use Rattle.vx_ast.specs.declared.Place.{Place}
+use Rattle.vx_ast.specs.Syntax.{Program, Member, Method, IsMethod}
 use Rattle.vx_terms.specs.Sorts.{BoolSort}
 use Rattle.vx_terms.specs.Formed.{Formed}
 use Rattle.vx_terms.specs.Interpretations.{Each}
-use Rattle.vx_meaning.specs.Fails.{Fails}
-use Rattle.vx_whole.specs.Premises.{IsTypedProgram}
+use Rattle.vx_meaning.specs.Fails.{Fails, MethodFails}
+use Rattle.vx_types.specs.Premises.{IsTypedProgram}
+use Rattle.vx_smt_meaning.specs.declared.reply.Reply.TheVariants.{Sat}
 use Rattle.vx_smt_meaning.specs.Commands.{Command, Declared, Assert}
 use Rattle.vx_smt_meaning.specs.Dialogues.{Check}
 use Rattle.vx_smt_meaning.specs.WellFormed.{IsWellFormed}
@@ -17,6 +19,7 @@ use Rattle.vx_dialogue.specs.History.{Tells}
 use Rattle.vx_dialogue.specs.Turns.{Turn, Asks, Posts, Leaves}
 use Rattle.vx_dialogue.specs.Scripts.{ScopedTurn, plain, script}
 use Rattle.vx_rules.specs.Trees.{Question, Answered, Ending as Ends, Passed, Failed, Open, Walked, walk}
+use Rattle.vx_rules.specs.declared.code.Code.{Code}
 use Rattle.vx_rules.specs.Codes.{code}
 use Rattle.vx_machine.specs.Runs.{member_tree}
 use Rattle.vx_live.specs.Functions.{function_symbols}
@@ -26,9 +29,11 @@ use Rattle.vx_report.specs.declared.run.Verdict.{Verdict}
 use Rattle.vx_report.specs.declared.run.Verdict.TheVariants as verdict'
 use Rattle.vx_report.specs.declared.run.MemberRun.{MemberRun}
 use Rattle.vx_report.specs.Reports.{is_faulted}
+use Rattle.vx_runs.specs.Law.{NoWholeRunFails}
 use Rattle.vx_closure.specs.Leads.{LeadsTo, HasDistinctNames}
 use Rattle.vx_resting.specs.Resting.{AreRested}
-use Rattle.vx_verifier.specs.Sequences.{AreChecksOf, replies_to, IsRight, AllUnsat}
+use Rattle.vx_real.specs.Law.{IsInFieldFragment}
+use Rattle.vx_verifier.specs.Sequences.{AreChecksOf, replies_to, IsRight, LastIsPossible, AllUnsat}
 use Rattle.vx_verifier.specs.Causes.{HasCauseOf, NoCountRose, AllLawful}
 use Rattle.vx_verifier.specs.Lines.{lines}
 
@@ -169,6 +174,11 @@ Under Holds p n runs checks = Each (λ (r : MemberRun). LeadsTo p n r.member.0 �
 abbrev pub AreSound : Program → List MemberRun → List Check → Type 0
 AreSound p runs checks = Each (λ (r : MemberRun). r.verdict ≡ verdict'.Verified → Under (λ own. Each IsRight own) p r.member.0 runs checks → NeverFails p r.member.0) runs
 
+-- A failure that is told by a right sat is one of a run, for methods that lead to fields, loops and calls alone.
+abbrev pub AreReal : Program → List MemberRun → List Check → Type 0
+AreReal p runs checks = Each (λ (r : MemberRun). (at : Place) (c : Code) (m : Member) (f : Method) → r.verdict ≡ verdict'.Failed at c Sat → slice_get p r.member.0 ≡ Some m → m.kind ≡ IsMethod f
+    → IsInFieldFragment p m.name → LastIsPossible (sequence_of r checks) → MethodFails p f at) runs
+
 -- Where no count rose and all replies were lawful, no verdict is a fault. Where none is a limit either, each member is verified
 -- if the checks of all that it leads to were answered unsat.
 pub record IsComplete (p : Program) (before now : List Ending) (faults_then faults_now : ℕ) (runs : List MemberRun) (checks : List Check) : Type 0 where
@@ -178,6 +188,10 @@ pub record IsComplete (p : Program) (before now : List Ending) (faults_then faul
 -- the numbers of the members, in the order of their runs
 abbrev pub members_of : List MemberRun → List ℕ
 members_of runs = map (λ r. r.member.0) runs
+
+-- Where all members are verified, and by right checks alone, no whole run of a method fails: one in which calls run their callees' bodies, and loops go round.
+abbrev pub KeepsWholeRuns : Program → List MemberRun → List Check → Type 0
+KeepsWholeRuns p runs checks = Each (λ (r : MemberRun). r.verdict ≡ verdict'.Verified) runs → Each IsRight checks → NoWholeRunFails p
 
 -- an assertion is well-sorted
 abbrev pub IsWellSorted : Command → Type 0
@@ -199,4 +213,6 @@ pub record Headline (p : Program) (before now : List Ending) (faults_then faults
   pub told : AreTold p before now faults_then faults_now false 0 runs checks
   pub rested : AreRested p runs
   pub sound : AreSound p runs checks
+  pub whole_runs : KeepsWholeRuns p runs checks
+  pub real : AreReal p runs checks
   pub complete : IsComplete p before now faults_then faults_now runs checks

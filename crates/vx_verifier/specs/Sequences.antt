@@ -2,10 +2,10 @@
 use Rattle.std.specs.Prelude.{◌≡◌, ◌⊎◌, ⊤, List, [], ◌∷◌, ◌++◌, Option, Some, None}
 use Rattle.vx_terms.specs.Terms.{Term}
 use Rattle.vx_terms.specs.Build.{negate}
-use Rattle.vx_terms.specs.Interpretations.{Each, IsUnsatisfiable}
+use Rattle.vx_terms.specs.Interpretations.{Each, IsSatisfiable, IsUnsatisfiable}
 use Rattle.vx_smt_meaning.specs.Dialogues.{Check}
 use Rattle.vx_smt_meaning.specs.declared.reply.Reply.{Reply}
-use Rattle.vx_smt_meaning.specs.declared.reply.Reply.TheVariants.{Unsat}
+use Rattle.vx_smt_meaning.specs.declared.reply.Reply.TheVariants.{Unsat, Sat}
 use Rattle.vx_rules.specs.Trees.{Answered}
 
 abbrev pub IsIn : {A : Type 0} → A → List A → Type 0
@@ -40,6 +40,16 @@ replies_to (c ∷ cs) = reply_list c.reply ++ replies_to cs
 -- an unsat is right where no interpretation makes all true that was asserted
 abbrev pub IsRight : Check → Type 0
 IsRight c = c.reply ≡ Some Unsat → IsUnsatisfiable c.assertions
+
+-- a sat is right where some interpretation makes all true that was asserted
+abbrev pub IsPossible : Check → Type 0
+IsPossible c = c.reply ≡ Some Sat → IsSatisfiable c.assertions
+
+-- of the last of some checks; nothing is asked of those before it
+abbrev pub LastIsPossible : List Check → Type 0
+LastIsPossible [] = ⊤
+LastIsPossible (c ∷ []) = IsPossible c
+LastIsPossible (c ∷ d ∷ rest) = LastIsPossible (d ∷ rest)
 
 abbrev pub AllUnsat : List Check → Type 0
 AllUnsat checks = Each (λ (c : Check). c.reply ≡ Some Unsat) checks

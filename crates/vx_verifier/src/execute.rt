@@ -15,8 +15,7 @@ ghost use Rattle.vx_machine.specs.Runs.{Follows, awaits, member_tree};
 ghost use Rattle.vx_live.specs.Functions.{function_symbols};
 ghost use Rattle.vx_verifier.specs.Causes.{HasCauseOf, NoCountRose};
 ghost use Rattle.vx_verifier.specs.Steady.{AreSpelled, AllSpelled, AsksSpelled, IsCalmLane};
-ghost use Rattle.vx_settled.specs.WhenSettled.{LeaveResults};
-ghost use Rattle.vx_typing.specs.Typed.{resolved_of, written_of};
+ghost use Rattle.vx_typing.specs.Typed.{resolved_of};
 ghost use Rattle.vx_verifier.specs.Headline.{Headline, IsWhole, asked_turns, member_turns, members_of, has_question, some_ask};
 ghost use Rattle.vx_verifier.specs.Lines.{has_line, lines};
 ghost use Rattle.vx_verifier.specs.Lanes as spec;
@@ -30,10 +29,12 @@ use vx_ast::MemberId;
 use vx_ends::{Parts, Spawner, Turns};
 use vx_law::members_are_sound;
 use vx_machine::{Ask, Machine, Outcome};
+use vx_real::failures_are_real;
 use vx_report::{MemberRun, Verdict};
 use vx_resolved::{Kind, Settled};
 use vx_resting::rest;
 use vx_rules::Reply;
+use vx_runs::no_whole_run_fails;
 use vx_smt_meaning::Declared;
 use vx_typing::Typed;
 
@@ -142,14 +143,16 @@ fn judge<W: Spawner, N: Turns>(
     ensures held { IsHeld result.0 (W.owed spawner.new LANE) }
     ensures owed { W.owed spawner.new LANE + links child ≡ W.owed spawner.old LANE + links result.0 }
     ensures other_lanes { OthersOwe (W.owed spawner.old) (W.owed spawner.new) }
-    ensures told { IfOk result.1 (λ judged. (before : List Ending) (turns : List Turn) (checks : List Check) → Hears W.Link.dialogue (map declared_symbol functions.now) before (W.ended spawner.old) child turns checks
+    ensures told { IfOk result.1 (λ judged. (before : List Ending) (turns : List Turn) (checks : List Check)
+        → Hears W.Link.dialogue (map declared_symbol functions.now) before (W.ended spawner.old) child turns checks
         → Judges W.Link.dialogue (map declared_symbol functions.now) (settled program.now) member.0 before (W.ended spawner.new) (HasCauseOf before (W.ended spawner.new) (W.faults spawner.old) (W.faults spawner.new) (is_lost child)) (is_lost child)
         result.0 turns (λ own. asked_turns (is_lost child) (settled program.now) member.0 own judged.verdict) checks judged.checks judged.verdict) }
     ensures lost { IfOk result.1 (λ judged. is_lost result.0 ≡ (is_lost child || is_faulted judged.verdict)) }
     ensures started { IfOk result.1 (λ _. is_started result.0 ≡ (is_started child || has_question (settled program.now) member.0)) }
     ensures few { IfOk result.1 (λ judged. judged.checks ≤ LIMIT) }
     ensures alone { IfOk result.1 (λ judged. is_resting judged.verdict ≡ false) }
-    ensures starts { (before : List Start) → let start : Start = record { lane = LANE; command = command.now } in Starts before (W.starts spawner.old) start child → Starts before (W.starts spawner.new) start result.0 }
+    ensures starts { (before : List Start) → let start : Start = record { lane = LANE; command = command.now } in Starts before (W.starts spawner.old) start child
+        → Starts before (W.starts spawner.new) start result.0 }
     ensures faults { W.faults spawner.old ≤ W.faults spawner.new }
     ensures later { Later (W.ended spawner.old) (W.ended spawner.new) }
     ensures calm { (before : List Ending) (count : ℕ) → IsCalmLane W.Link.dialogue W.Link.steady W.Link.faults before (W.ended spawner.old) (W.steady spawner.old) count (W.faults spawner.old) child
@@ -211,13 +214,15 @@ fn execute<W: Spawner, N: Turns>(
     ensures other_lanes { OthersOwe (W.owed spawner.old) (W.owed spawner.new) }
     ensures alone { IfOk result.1 (λ run. is_resting run.verdict ≡ false) }
     ensures numbers { IfOk result.1 (λ run. (run.member ≡ member) × (run.lane ≡ LANE) × (run.child ≡ 0) × (run.first ≡ lane.checks)) }
-    ensures told { IfOk result.1 (λ run. (before : List Ending) (turns : List Turn) (checks : List Check) → Hears W.Link.dialogue (map declared_symbol functions.now) before (W.ended spawner.old) lane.child turns checks
+    ensures told { IfOk result.1 (λ run. (before : List Ending) (turns : List Turn) (checks : List Check)
+        → Hears W.Link.dialogue (map declared_symbol functions.now) before (W.ended spawner.old) lane.child turns checks
         → Judges W.Link.dialogue (map declared_symbol functions.now) (settled program.now) member.0 before (W.ended spawner.new) (HasCauseOf before (W.ended spawner.new) (W.faults spawner.old) (W.faults spawner.new) (is_lost lane.child)) (is_lost lane.child)
         result.0.child turns (λ own. member_turns (is_lost lane.child) (settled program.now) member.0 own run.verdict) checks run.checks run.verdict) }
     ensures lost { IfOk result.1 (λ run. is_lost result.0.child ≡ (is_lost lane.child || is_faulted run.verdict)) }
     ensures started { IfOk result.1 (λ _. is_started result.0.child ≡ (is_started lane.child || has_question (settled program.now) member.0)) }
     ensures count { IfOk result.1 (λ run. (result.0.checks ≡ lane.checks + run.checks) × (run.checks ≤ LIMIT)) }
-    ensures starts { (before : List Start) → let start : Start = record { lane = LANE; command = command.now } in Starts before (W.starts spawner.old) start lane.child → Starts before (W.starts spawner.new) start result.0.child }
+    ensures starts { (before : List Start) → let start : Start = record { lane = LANE; command = command.now } in Starts before (W.starts spawner.old) start lane.child
+        → Starts before (W.starts spawner.new) start result.0.child }
     ensures faults { W.faults spawner.old ≤ W.faults spawner.new }
     ensures later { Later (W.ended spawner.old) (W.ended spawner.new) }
     ensures calm { (before : List Ending) (count : ℕ) → IsCalmLane W.Link.dialogue W.Link.steady W.Link.faults before (W.ended spawner.old) (W.steady spawner.old) count (W.faults spawner.old) lane.child
@@ -345,6 +350,8 @@ fn verify_members<W: Spawner, N: Turns>(
 {
     let functions = function_symbols(alloc, program)?;
     members_are_sound();
+    failures_are_real();
+    no_whole_run_fails();
     let (lane, runs) = execute_all(alloc, program, &functions, command, spawner, turns);
     let Lane { child, checks: _ } = lane;
     end(spawner, child);
@@ -369,7 +376,6 @@ pub fn verify<W: Spawner, N: Turns>(
 ) -> Result<Verification, AllocError>
     requires jobs { jobs ≡ 1 }
     requires certify { certify ≡ false }
-    requires leave_results { LeaveResults (written_of typed.now) }
     ensures program { IfOk result (λ v. settled v.program ≡ resolved_of typed.now) }
     ensures named { IfOk result (λ v. AreNamed (resolved_of typed.now) v.runs.items) }
     ensures rests { IfOk result (λ v. RestWithin (resolved_of typed.now) v.runs.items) }

@@ -129,9 +129,11 @@ fn talk<W: Spawner>(
     ensures held { IsHeld result.0 (W.owed spawner.new LANE) }
     ensures owed { W.owed spawner.new LANE + 1 ≡ W.owed spawner.old LANE + links result.0 }
     ensures other_lanes { OthersOwe (W.owed spawner.old) (W.owed spawner.new) }
-    ensures told { IfOk result.1 (λ reply. (functions : List smt.Declared) (before : List Ending) (turns : List Turn) (checks : List Check) → Hears W.Link.dialogue functions before (W.ended spawner.old) (Child.Talking dialogue) turns checks
+    ensures told { IfOk result.1 (λ reply. (functions : List smt.Declared) (before : List Ending) (turns : List Turn) (checks : List Check)
+        → Hears W.Link.dialogue functions before (W.ended spawner.old) (Child.Talking dialogue) turns checks
         → HearsOf W.Link.dialogue functions before (W.ended spawner.new) result.0 turns checks (rules.query query.now) reply) }
-    ensures lost { IfErr result.1 (λ trouble. (functions : List smt.Declared) (before : List Ending) (turns : List Turn) (checks : List Check) → Hears W.Link.dialogue functions before (W.ended spawner.old) (Child.Talking dialogue) turns checks
+    ensures lost { IfErr result.1 (λ trouble. (functions : List smt.Declared) (before : List Ending) (turns : List Turn) (checks : List Check)
+        → Hears W.Link.dialogue functions before (W.ended spawner.old) (Child.Talking dialogue) turns checks
         → Loses functions before (W.ended spawner.new) (W.faults spawner.old) (W.faults spawner.new) false turns checks (rules.query query.now) trouble) }
     ensures child { (is_started result.0 ≡ true) × (is_lost result.0 ≡ is_err result.1) }
     ensures starts { (before : List Start) (start : Start) → Starts before (W.starts spawner.old) start (Child.Talking dialogue) → Starts before (W.starts spawner.new) start result.0 }
@@ -175,13 +177,16 @@ pub fn ask<W: Spawner>(
     ensures held { IsHeld result.0 (W.owed spawner.new LANE) }
     ensures owed { W.owed spawner.new LANE + links child ≡ W.owed spawner.old LANE + links result.0 }
     ensures other_lanes { OthersOwe (W.owed spawner.old) (W.owed spawner.new) }
-    ensures told { IfOk result.1 (λ reply. (before : List Ending) (turns : List Turn) (checks : List Check) → Hears W.Link.dialogue (map declared_symbol functions.now) before (W.ended spawner.old) child turns checks
+    ensures told { IfOk result.1 (λ reply. (before : List Ending) (turns : List Turn) (checks : List Check)
+        → Hears W.Link.dialogue (map declared_symbol functions.now) before (W.ended spawner.old) child turns checks
         → HearsOf W.Link.dialogue (map declared_symbol functions.now) before (W.ended spawner.new) result.0 turns checks (rules.query query.now) reply) }
-    ensures lost { IfErr result.1 (λ trouble. (before : List Ending) (turns : List Turn) (checks : List Check) → Hears W.Link.dialogue (map declared_symbol functions.now) before (W.ended spawner.old) child turns checks
+    ensures lost { IfErr result.1 (λ trouble. (before : List Ending) (turns : List Turn) (checks : List Check)
+        → Hears W.Link.dialogue (map declared_symbol functions.now) before (W.ended spawner.old) child turns checks
         → Loses (map declared_symbol functions.now) before (W.ended spawner.new) (W.faults spawner.old) (W.faults spawner.new) (is_lost child) turns checks (rules.query query.now) trouble) }
     ensures child { MatchResult result.1 (λ _. (is_started result.0 ≡ true) × (is_lost result.0 ≡ false)) (λ trouble. is_fault trouble ≡ true → is_lost result.0 ≡ true) }
     ensures before { IfOk result.1 (λ _. is_lost child ≡ false) }
-    ensures starts { (before : List Start) → let start : Start = record { lane = LANE; command = command.now } in Starts before (W.starts spawner.old) start child → Starts before (W.starts spawner.new) start result.0 }
+    ensures starts { (before : List Start) → let start : Start = record { lane = LANE; command = command.now } in Starts before (W.starts spawner.old) start child
+        → Starts before (W.starts spawner.new) start result.0 }
     ensures faults { W.faults spawner.old ≤ W.faults spawner.new }
     ensures later { Later (W.ended spawner.old) (W.ended spawner.new) }
     ensures calm { (before : List Ending) (count : ℕ) → IsCalmLane W.Link.dialogue W.Link.steady W.Link.faults before (W.ended spawner.old) (W.steady spawner.old) count (W.faults spawner.old) child
@@ -228,7 +233,8 @@ pub fn end<W: Spawner>(spawner: &mut W, child: Child<W::Link>)
     requires { IsHeld child (W.owed spawner.old LANE) }
     ensures owed { W.owed spawner.new LANE + links child ≡ W.owed spawner.old LANE }
     ensures other_lanes { OthersOwe (W.owed spawner.old) (W.owed spawner.new) }
-    ensures told { (functions : List smt.Declared) (before : List Ending) (turns : List Turn) (checks : List Check) → Hears W.Link.dialogue functions before (W.ended spawner.old) child turns checks → Records functions (is_lost child) before (W.ended spawner.new) turns checks }
+    ensures told { (functions : List smt.Declared) (before : List Ending) (turns : List Turn) (checks : List Check)
+        → Hears W.Link.dialogue functions before (W.ended spawner.old) child turns checks → Records functions (is_lost child) before (W.ended spawner.new) turns checks }
     ensures starts { W.starts spawner.new ≡ W.starts spawner.old }
     ensures faults { W.faults spawner.new ≡ W.faults spawner.old }
     ensures later { Later (W.ended spawner.old) (W.ended spawner.new) }

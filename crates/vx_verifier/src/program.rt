@@ -2,8 +2,7 @@
 
 ghost use Rattle.std.specs.Prelude.{◌≡◌, IfOk};
 ghost use Rattle.vx_resolved.specs.Settled.{settled};
-ghost use Rattle.vx_typing.specs.Typed.{resolved_of, written_of};
-ghost use Rattle.vx_settled.specs.WhenSettled.{LeaveResults};
+ghost use Rattle.vx_typing.specs.Typed.{resolved_of};
 ghost use Rattle.vx_verifier.specs.Headline.{IsWhole};
 
 use std::alloc::{AllocError, Global};
@@ -23,10 +22,8 @@ pub fn settled(alloc: Global, typed: &Typed) -> Result<Settled, AllocError>
     settle(alloc, typed.program())
 }
 
-/// A typed program is typed as a whole, and no two of its members have one name, where no parameter of a function has the name
-/// of its result: in a text `result` is a reserved word, so this holds of each program that a text spells.
+/// A typed program is typed as a whole, and no two of its members have one name.
 pub fn typed_programs_are_whole(typed: &Typed)
-    requires { LeaveResults (written_of typed.now) }
     ensures { IsWhole (resolved_of typed.now) }
 {
     typed_programs_settle_whole();

@@ -37,7 +37,7 @@ returns-clause-headline g c =
     let executed = subst (λ fs. Executes g.W.Link.Link.dialogue fs p before (g.W.Spawner.ended c.execute_all-lane.new.spawner) (g.W.Spawner.faults c.args.spawner.now) (g.W.Spawner.faults c.execute_all-lane.new.spawner)
     c.execute_all-lane.result.0.child c.execute_all-lane.result.0.checks own.items) declared told.1 in
     if_ok_both c.rest.result _ _ _ (λ runs later rested.
-    headline c.members_are_sound.ensures g.W.Link.Link.dialogue p c.requires.whole before (g.W.Spawner.ended c.execute_all-lane.new.spawner) (g.W.Spawner.ended c.end.new.spawner)
+    headline c.members_are_sound.ensures c.failures_are_real.ensures c.no_whole_run_fails.ensures g.W.Link.Link.dialogue p c.requires.whole before (g.W.Spawner.ended c.execute_all-lane.new.spawner) (g.W.Spawner.ended c.end.new.spawner)
     (g.W.Spawner.faults c.args.spawner.now) (g.W.Spawner.faults c.execute_all-lane.new.spawner) (g.W.Spawner.faults c.end.new.spawner)
     c.execute_all-lane.result.0.child c.execute_all-lane.result.0.checks own.items runs.items told.0 named later rested executed (λ turns checks. c.end.ensures.told (function_symbols p) before turns checks)
     c.end.ensures.later after (typed_fine p c.requires.whole.typed))
