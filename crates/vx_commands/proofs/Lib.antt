@@ -1,5 +1,5 @@
 mod Statuses
 mod Scripts
+mod Readable
 mod Companions
 mod Untouched
-mod Reserved

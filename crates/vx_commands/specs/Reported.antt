@@ -1,13 +1,22 @@
 -- What `run` promises: what is put, by its cause, with its status.
-use Rattle.std.specs.Prelude.{◌≡◌, ◌⊎◌, ℕ, ◌<◌, ◌≤◌, Bool, true, false, List, [], ◌∷◌, ◌++◌, Option, Some, None, IfSome, codes, length, take, vec_items, string_bytes}
+use Rattle.std.specs.Prelude.{◌≡◌, ◌⊎◌, ⊤, ℕ, ◌<◌, ◌≤◌, Bool, true, false, List, [], ◌∷◌, ◌++◌, Option, Some, None, IfSome, codes, length, take, slice_get, vec_items, string_bytes}
 use Rattle.std.specs.Str.{bytes_eq}
-use Rattle.vx_ast.specs.Syntax.{Program}
+use Rattle.vx_ast.specs.declared.Place.{Place}
+use Rattle.vx_ast.specs.Syntax.{Program, Member, Method, IsMethod}
 use Rattle.vx_ast.specs.Written as written
 use Rattle.vx_ast.specs.Resolve as resolve
 use Rattle.vx_parser.specs.Spelling.{Spells}
 use Rattle.vx_words.specs.declared.order.Order.{Order}
 use Rattle.vx_words.specs.declared.order.Order.TheVariants.{Verify, Check, Print, Gen, Work}
 use Rattle.vx_terms.specs.Interpretations.{Each}
+use Rattle.vx_sexp.specs.First.{deepest}
+use Rattle.vx_smt_meaning.specs.Commands.{Command, Assert}
+use Rattle.vx_smt_meaning.specs.Words.{command_tokens}
+use Rattle.vx_smt_meaning.specs.declared.reply.Reply.TheVariants.{Sat}
+use Rattle.vx_rules.specs.declared.code.Code.{Code}
+use Rattle.vx_meaning.specs.Fails.{MethodFails}
+use Rattle.vx_real.specs.Law.{IsInFieldFragment}
+use Rattle.vx_runs.specs.Law.{NoWholeRunFails}
 use Rattle.vx_report.specs.declared.run.MemberRun.{MemberRun}
 use Rattle.vx_report.specs.declared.run.Verdict.TheVariants as verdict
 use Rattle.vx_report.specs.declared.status.Status.{Status}
@@ -33,7 +42,6 @@ use Rattle.vx_report.specs.Reports.{report_of, total_of}
 use Rattle.vx_typing.specs.Typed.{written_of}
 use Rattle.vx_commands.specs.Refusals.{RefusesText, RefusesTyping, IsSpelledBy}
 use Rattle.vx_companion.specs.Companion.{AllByCompanion}
-use Rattle.vx_companion.specs.Lawful.{IsTaken}
 use Rattle.vx_commands.specs.Outside.{Change, Texts, Taken, Children, IsUnchanged, AsksOnly, HasFailedToRead, IsTooLong, HasPut, HasFailedToPut, StartsOnly}
 use Rattle.vx_verifier.specs.Lanes.{StartsWhere}
 use Rattle.vx_verifier.specs.Headline.{IsWhole, Headline, HasNoFault, NeverFails, some_ask, script_of}
@@ -219,11 +227,24 @@ pub record IsReport (telling : Telling) (p : Program) (command : List (List ℕ)
 abbrev pub AllNeverFail : Program → List MemberRun → Type 0
 AllNeverFail p runs = Each (λ (r : MemberRun). r.verdict ≡ verdict.Verified → NeverFails p r.member.0) runs
 
--- A report by the companion. Whatever it answered, no member that is verified fails; and where it takes each command that it was sent, none is faulted.
+-- A failure that is told by a sat is one of a run, for a method that leads to members with fields, loops and calls alone.
+abbrev pub FailuresAreReal : Program → List MemberRun → Type 0
+FailuresAreReal p runs = Each (λ (r : MemberRun). (at : Place) (c : Code) (m : Member) (f : Method) → r.verdict ≡ verdict.Failed at c Sat → slice_get p r.member.0 ≡ Some m → m.kind ≡ IsMethod f
+    → IsInFieldFragment p m.name → ∥ MethodFails p f at ∥₁) runs
+
+-- an assertion has at most 4096 lists within one another
+abbrev pub IsShallow : Command → Type 0
+IsShallow (Assert t) = deepest 0 (command_tokens (Assert t)) ≤ 4096
+IsShallow c = ⊤
+
+-- A report by the companion. Whatever it answered, no member that is verified fails, and a failure by a sat is one of a run; and where no assertion that it was sent is too deep, no member is faulted.
 pub record IsCompanionReport (telling : Telling) (p : Program) (command : List (List ℕ)) (spawner : Change Children) (sink : Change Taken) (ended : Ended) : Type 0 where
   pub report : IsReport telling p command spawner sink ended
   pub sound : AllNeverFail p ended.runs.items
-  pub no_fault : Each IsTaken (script_of p report.headline.turns) → HasNoFault ended.runs.items
+  -- where all members are verified no whole run of a method fails
+  pub whole_runs : Each (λ (r : MemberRun). r.verdict ≡ verdict.Verified) ended.runs.items → NoWholeRunFails p
+  pub real : FailuresAreReal p ended.runs.items
+  pub no_fault : Each IsShallow (script_of p report.headline.turns) → HasNoFault ended.runs.items
   -- each command had the reply that the companion has for it, and each undecided one has its cause
   pub replies : AllByCompanion spawner.after.ended spawner.after.causes
 

@@ -78,7 +78,9 @@ fn work_on<K: Sink>(
 ) -> Result<Ended, AllocError>
     requires few { methods ≤ 2000 }
     requires program { written_of typed.now ≡ gen.program_of methods }
-    ensures report { IfOk result (IsWork methods (change companions builtin.old builtin.new) (change (taken K.taken K.faults) out.old out.new)) }
+    ensures report { IfOk result (IsWork methods
+        (change companions builtin.old builtin.new)
+        (change (taken K.taken K.faults) out.old out.new)) }
     ensures starts { StartsOnly companion_alone (change companions builtin.old builtin.new) }
     ensures nothing { IfErr result (λ _. K.taken out.new ≡ K.taken out.old) }
     ensures companion_back { HandsBack (change companions builtin.old builtin.new) }
@@ -97,7 +99,9 @@ pub fn work<K: Sink>(
     builtin: &mut Builtin,
 ) -> Result<Ended, AllocError>
     requires { methods ≤ 2000 }
-    ensures report { IfOk result (IsWork methods (change companions builtin.old builtin.new) (change (taken K.taken K.faults) out.old out.new)) }
+    ensures report { IfOk result (IsWork methods
+        (change companions builtin.old builtin.new)
+        (change (taken K.taken K.faults) out.old out.new)) }
     ensures starts { StartsOnly companion_alone (change companions builtin.old builtin.new) }
     ensures nothing { IfErr result (λ _. K.taken out.new ≡ K.taken out.old) }
     ensures companion_back { HandsBack (change companions builtin.old builtin.new) }

@@ -3,8 +3,8 @@
 ghost use Rattle.std.specs.Prelude.{◌≡◌, ◌++◌, [], IfOk, IfErr, OnOk, string_bytes};
 ghost use Rattle.vx_report.specs.Reports.{AreNamed, RestWithin};
 ghost use Rattle.vx_resolved.specs.Settled.{settled};
-ghost use Rattle.vx_settled.specs.WhenSettled.{LeaveResults};
-ghost use Rattle.vx_typing.specs.Typed.{resolved_of, written_of};
+ghost use Rattle.vx_typing.specs.Typed.{resolved_of};
+ghost use Rattle.vx_readable.specs.Numerals.{HasSmallNumerals};
 ghost use Rattle.vx_commands.specs.Reported as spec;
 ghost use Rattle.vx_commands.specs.Outside.{change, taken, children, companions, HandsBack, StartsOnly};
 ghost use Rattle.vx_commands.specs.Reported.{IsPut, IsStatus, IsSaid, IsReport, IsCompanionReport, IsReportBy, StartsBy};
@@ -75,8 +75,9 @@ fn report<K: Sink, W: Spawner>(
     solver: &Parts,
     spawner: &mut W,
 ) -> Result<Ended, AllocError>
-    requires { LeaveResults (written_of typed.now) }
-    ensures report { IfOk result (IsReport telling (resolved_of typed.now) solver.now (change (children W.starts W.owed W.ended W.faults W.steady) spawner.old spawner.new) (change (taken K.taken K.faults) out.old out.new)) }
+    ensures report { IfOk result (IsReport telling (resolved_of typed.now) solver.now
+        (change (children W.starts W.owed W.ended W.faults W.steady) spawner.old spawner.new)
+        (change (taken K.taken K.faults) out.old out.new)) }
     ensures starts { StartsOnly solver.now (change (children W.starts W.owed W.ended W.faults W.steady) spawner.old spawner.new) }
     ensures nothing { IfErr result (λ _. K.taken out.new ≡ K.taken out.old) }
     ensures children_back { HandsBack (change (children W.starts W.owed W.ended W.faults W.steady) spawner.old spawner.new) }
@@ -98,7 +99,7 @@ pub fn is_companion(solver: &Parts) -> bool
     solver.len() == 1 && solver.part(0) == "builtin"
 }
 
-/// Verifies a program by the companion, and puts the report. No member is faulted.
+/// Verifies a program by the companion, and puts the report. No member is faulted, unless an assertion is too deep.
 pub fn report_by_companion<K: Sink>(
     alloc: Global,
     telling: Telling,
@@ -107,8 +108,10 @@ pub fn report_by_companion<K: Sink>(
     out: &mut K,
     builtin: &mut Builtin,
 ) -> Result<Ended, AllocError>
-    requires { LeaveResults (written_of typed.now) }
-    ensures report { IfOk result (IsCompanionReport telling (resolved_of typed.now) solver.now (change companions builtin.old builtin.new) (change (taken K.taken K.faults) out.old out.new)) }
+    requires { HasSmallNumerals (resolved_of typed.now) }
+    ensures report { IfOk result (IsCompanionReport telling (resolved_of typed.now) solver.now
+        (change companions builtin.old builtin.new)
+        (change (taken K.taken K.faults) out.old out.new)) }
     ensures starts { StartsOnly solver.now (change companions builtin.old builtin.new) }
     ensures nothing { IfErr result (λ _. K.taken out.new ≡ K.taken out.old) }
     ensures companion_back { HandsBack (change companions builtin.old builtin.new) }
@@ -125,9 +128,14 @@ pub fn report_by<K: Sink, W: Spawner>(
     spawner: &mut W,
     builtin: &mut Builtin,
 ) -> Result<Ended, AllocError>
-    requires { LeaveResults (written_of typed.now) }
-    ensures report { IfOk result (IsReportBy solver.now (resolved_of typed.now) (change companions builtin.old builtin.new) (change (children W.starts W.owed W.ended W.faults W.steady) spawner.old spawner.new) (change (taken K.taken K.faults) out.old out.new)) }
-    ensures starts { StartsBy solver.now (change companions builtin.old builtin.new) (change (children W.starts W.owed W.ended W.faults W.steady) spawner.old spawner.new) }
+    requires { HasSmallNumerals (resolved_of typed.now) }
+    ensures report { IfOk result (IsReportBy solver.now (resolved_of typed.now)
+        (change companions builtin.old builtin.new)
+        (change (children W.starts W.owed W.ended W.faults W.steady) spawner.old spawner.new)
+        (change (taken K.taken K.faults) out.old out.new)) }
+    ensures starts { StartsBy solver.now
+        (change companions builtin.old builtin.new)
+        (change (children W.starts W.owed W.ended W.faults W.steady) spawner.old spawner.new) }
     ensures nothing { IfErr result (λ _. K.taken out.new ≡ K.taken out.old) }
     ensures companion_back { HandsBack (change companions builtin.old builtin.new) }
     ensures children_back { HandsBack (change (children W.starts W.owed W.ended W.faults W.steady) spawner.old spawner.new) }

@@ -54,8 +54,13 @@ fn verify_typed<K: Sink, W: Spawner>(
     builtin: &mut Builtin,
 ) -> Result<Ended, AllocError>
     requires { IsSpelledBy text.now (written_of typed.now) }
-    ensures verified { IfOk result (IsVerified text.now solver.now (change companions builtin.old builtin.new) (change (children W.starts W.owed W.ended W.faults W.steady) spawner.old spawner.new) (change (taken K.taken K.faults) out.old out.new)) }
-    ensures starts { StartsBy solver.now (change companions builtin.old builtin.new) (change (children W.starts W.owed W.ended W.faults W.steady) spawner.old spawner.new) }
+    ensures verified { IfOk result (IsVerified text.now solver.now
+        (change companions builtin.old builtin.new)
+        (change (children W.starts W.owed W.ended W.faults W.steady) spawner.old spawner.new)
+        (change (taken K.taken K.faults) out.old out.new)) }
+    ensures starts { StartsBy solver.now
+        (change companions builtin.old builtin.new)
+        (change (children W.starts W.owed W.ended W.faults W.steady) spawner.old spawner.new) }
     ensures nothing { IfErr result (λ _. K.taken out.new ≡ K.taken out.old) }
     ensures companion_back { HandsBack (change companions builtin.old builtin.new) }
     ensures children_back { HandsBack (change (children W.starts W.owed W.ended W.faults W.steady) spawner.old spawner.new) }
@@ -76,8 +81,13 @@ fn verify_program<K: Sink, W: Spawner>(
     builtin: &mut Builtin,
 ) -> Result<Ended, AllocError>
     requires { IsSpelledBy text.now (written_program program.now) }
-    ensures verified { IfOk result (IsVerified text.now solver.now (change companions builtin.old builtin.new) (change (children W.starts W.owed W.ended W.faults W.steady) spawner.old spawner.new) (change (taken K.taken K.faults) out.old out.new)) }
-    ensures starts { StartsBy solver.now (change companions builtin.old builtin.new) (change (children W.starts W.owed W.ended W.faults W.steady) spawner.old spawner.new) }
+    ensures verified { IfOk result (IsVerified text.now solver.now
+        (change companions builtin.old builtin.new)
+        (change (children W.starts W.owed W.ended W.faults W.steady) spawner.old spawner.new)
+        (change (taken K.taken K.faults) out.old out.new)) }
+    ensures starts { StartsBy solver.now
+        (change companions builtin.old builtin.new)
+        (change (children W.starts W.owed W.ended W.faults W.steady) spawner.old spawner.new) }
     ensures nothing { IfErr result (λ _. K.taken out.new ≡ K.taken out.old) }
     ensures companion_back { HandsBack (change companions builtin.old builtin.new) }
     ensures children_back { HandsBack (change (children W.starts W.owed W.ended W.faults W.steady) spawner.old spawner.new) }
@@ -97,8 +107,13 @@ fn verify_text<K: Sink, W: Spawner>(
     spawner: &mut W,
     builtin: &mut Builtin,
 ) -> Result<Ended, AllocError>
-    ensures verified { IfOk result (IsVerified text.now solver.now (change companions builtin.old builtin.new) (change (children W.starts W.owed W.ended W.faults W.steady) spawner.old spawner.new) (change (taken K.taken K.faults) out.old out.new)) }
-    ensures starts { StartsBy solver.now (change companions builtin.old builtin.new) (change (children W.starts W.owed W.ended W.faults W.steady) spawner.old spawner.new) }
+    ensures verified { IfOk result (IsVerified text.now solver.now
+        (change companions builtin.old builtin.new)
+        (change (children W.starts W.owed W.ended W.faults W.steady) spawner.old spawner.new)
+        (change (taken K.taken K.faults) out.old out.new)) }
+    ensures starts { StartsBy solver.now
+        (change companions builtin.old builtin.new)
+        (change (children W.starts W.owed W.ended W.faults W.steady) spawner.old spawner.new) }
     ensures nothing { IfErr result (λ _. K.taken out.new ≡ K.taken out.old) }
     ensures companion_back { HandsBack (change companions builtin.old builtin.new) }
     ensures children_back { HandsBack (change (children W.starts W.owed W.ended W.faults W.steady) spawner.old spawner.new) }
@@ -121,9 +136,15 @@ fn verify_file<F: Files, K: Sink, W: Spawner>(
     spawner: &mut W,
     builtin: &mut Builtin,
 ) -> Result<Ended, AllocError>
-    ensures answered { IfOk result (IsAnswer (Some (Order.Verify file.now solver.now)) (change (texts F.holds F.asked F.faults) files.old files.new) (change companions builtin.old builtin.new) (change (children W.starts W.owed W.ended W.faults W.steady) spawner.old spawner.new) (change (taken K.taken K.faults) out.old out.new)) }
+    ensures answered { IfOk result (IsAnswer (Some (Order.Verify file.now solver.now))
+        (change (texts F.holds F.asked F.faults) files.old files.new)
+        (change companions builtin.old builtin.new)
+        (change (children W.starts W.owed W.ended W.faults W.steady) spawner.old spawner.new)
+        (change (taken K.taken K.faults) out.old out.new)) }
     ensures asked { AsksOnly file.now (change (texts F.holds F.asked F.faults) files.old files.new) }
-    ensures starts { StartsBy solver.now (change companions builtin.old builtin.new) (change (children W.starts W.owed W.ended W.faults W.steady) spawner.old spawner.new) }
+    ensures starts { StartsBy solver.now
+        (change companions builtin.old builtin.new)
+        (change (children W.starts W.owed W.ended W.faults W.steady) spawner.old spawner.new) }
     ensures nothing { IfErr result (λ _. K.taken out.new ≡ K.taken out.old) }
     ensures companion_back { HandsBack (change companions builtin.old builtin.new) }
     ensures children_back { HandsBack (change (children W.starts W.owed W.ended W.faults W.steady) spawner.old spawner.new) }
@@ -143,7 +164,9 @@ fn say_file<F: Files, K: Sink>(
     files: &mut F,
     out: &mut K,
 ) -> Result<Ended, AllocError>
-    ensures said { IfOk result (Puts (IsToldOf (spec.Says saying) file.now (change (texts F.holds F.asked F.faults) files.old files.new)) (change (taken K.taken K.faults) out.old out.new)) }
+    ensures said { IfOk result (Puts (IsToldOf (spec.Says saying) file.now
+        (change (texts F.holds F.asked F.faults) files.old files.new))
+        (change (taken K.taken K.faults) out.old out.new)) }
     ensures asked { AsksOnly file.now (change (texts F.holds F.asked F.faults) files.old files.new) }
     ensures nothing { IfErr result (λ _. K.taken out.new ≡ K.taken out.old) }
 {
@@ -177,9 +200,15 @@ fn obey<F: Files, K: Sink, W: Spawner>(
     builtin: &mut Builtin,
 ) -> Result<Ended, AllocError>
     requires { IsWithinLimit order.now }
-    ensures answered { IfOk result (IsAnswer (Some order.now) (change (texts F.holds F.asked F.faults) files.old files.new) (change companions builtin.old builtin.new) (change (children W.starts W.owed W.ended W.faults W.steady) spawner.old spawner.new) (change (taken K.taken K.faults) out.old out.new)) }
+    ensures answered { IfOk result (IsAnswer (Some order.now)
+        (change (texts F.holds F.asked F.faults) files.old files.new)
+        (change companions builtin.old builtin.new)
+        (change (children W.starts W.owed W.ended W.faults W.steady) spawner.old spawner.new)
+        (change (taken K.taken K.faults) out.old out.new)) }
     ensures asked { AsksFileOf (Some order.now) (change (texts F.holds F.asked F.faults) files.old files.new) }
-    ensures starts { StartsSolverOf (Some order.now) (change companions builtin.old builtin.new) (change (children W.starts W.owed W.ended W.faults W.steady) spawner.old spawner.new) }
+    ensures starts { StartsSolverOf (Some order.now)
+        (change companions builtin.old builtin.new)
+        (change (children W.starts W.owed W.ended W.faults W.steady) spawner.old spawner.new) }
     ensures nothing { IfErr result (λ _. K.taken out.new ≡ K.taken out.old) }
     ensures companion_back { HandsBack (change companions builtin.old builtin.new) }
     ensures children_back { HandsBack (change (children W.starts W.owed W.ended W.faults W.steady) spawner.old spawner.new) }
@@ -215,9 +244,15 @@ fn answer<F: Files, K: Sink, W: Spawner>(
     spawner: &mut W,
     builtin: &mut Builtin,
 ) -> Ended
-    ensures answered { IsAnswer (order_of words.now) (change (texts F.holds F.asked F.faults) files.old files.new) (change companions builtin.old builtin.new) (change (children W.starts W.owed W.ended W.faults W.steady) spawner.old spawner.new) (change (taken K.taken K.faults) out.old out.new) result }
+    ensures answered { IsAnswer (order_of words.now)
+        (change (texts F.holds F.asked F.faults) files.old files.new)
+        (change companions builtin.old builtin.new)
+        (change (children W.starts W.owed W.ended W.faults W.steady) spawner.old spawner.new)
+        (change (taken K.taken K.faults) out.old out.new) result }
     ensures asked { AsksFileOf (order_of words.now) (change (texts F.holds F.asked F.faults) files.old files.new) }
-    ensures starts { StartsSolverOf (order_of words.now) (change companions builtin.old builtin.new) (change (children W.starts W.owed W.ended W.faults W.steady) spawner.old spawner.new) }
+    ensures starts { StartsSolverOf (order_of words.now)
+        (change companions builtin.old builtin.new)
+        (change (children W.starts W.owed W.ended W.faults W.steady) spawner.old spawner.new) }
     ensures companion_back { HandsBack (change companions builtin.old builtin.new) }
     ensures children_back { HandsBack (change (children W.starts W.owed W.ended W.faults W.steady) spawner.old spawner.new) }
 {
@@ -241,10 +276,18 @@ pub fn run<F: Files, K: Sink, W: Spawner>(
     spawner: &mut W,
     builtin: &mut Builtin,
 ) -> Ended
-    ensures answered { IsAnswer (order_of words.now) (change (texts F.holds F.asked F.faults) files.old files.new) (change companions builtin.old builtin.new) (change (children W.starts W.owed W.ended W.faults W.steady) spawner.old spawner.new) (change (taken K.taken K.faults) out.old out.new) result }
+    ensures answered { IsAnswer (order_of words.now)
+        (change (texts F.holds F.asked F.faults) files.old files.new)
+        (change companions builtin.old builtin.new)
+        (change (children W.starts W.owed W.ended W.faults W.steady) spawner.old spawner.new)
+        (change (taken K.taken K.faults) out.old out.new) result }
     ensures asked { AsksFileOf (order_of words.now) (change (texts F.holds F.asked F.faults) files.old files.new) }
-    ensures starts { StartsSolverOf (order_of words.now) (change companions builtin.old builtin.new) (change (children W.starts W.owed W.ended W.faults W.steady) spawner.old spawner.new) }
-    ensures status { IsStatusOf (order_of words.now) (change (texts F.holds F.asked F.faults) files.old files.new) (change (taken K.taken K.faults) out.old out.new) result.runs.items result.status }
+    ensures starts { StartsSolverOf (order_of words.now)
+        (change companions builtin.old builtin.new)
+        (change (children W.starts W.owed W.ended W.faults W.steady) spawner.old spawner.new) }
+    ensures status { IsStatusOf (order_of words.now)
+        (change (texts F.holds F.asked F.faults) files.old files.new)
+        (change (taken K.taken K.faults) out.old out.new) result.runs.items result.status }
     ensures usage { order_of words.now ≡ None → (result.status ≡ Status.Usage) ⊎ (result.status ≡ Status.Unwritten) ⊎ (result.status ≡ Status.Want) }
     ensures companion_back { HandsBack (change companions builtin.old builtin.new) }
     ensures children_back { HandsBack (change (children W.starts W.owed W.ended W.faults W.steady) spawner.old spawner.new) }

@@ -3,24 +3,13 @@ use Rattle.std.proofs.lemmas.Result.{IfOk-weaker}
 use Rattle.vx_parser.specs.Spelling.{Spells}
 use Rattle.vx_typing.specs.Programs.{IsTyped}
 use Rattle.vx_typing.specs.Typed.{written_of, resolved_of}
-use Rattle.vx_settled.specs.WhenSettled.{LeaveResults}
 use Rattle.vx_gen.specs.Generated.{generated}
 use Rattle.vx_commands.specs.declared.reports.Telling.TheVariants.{Totals}
 use Rattle.vx_commands.specs.Outside.{change, taken, companions}
 use Rattle.vx_commands.specs.Reported.{IsCompanionReport, IsProgramOf}
-use Rattle.vx_commands.proofs.Reserved.{spelled_leave_results}
+use Rattle.vx_commands.proofs.Readable.{spelled_numerals}
 use Rattle.vx_commands.proofs.Untouched.{rests_back}
 use Rattle.vx_commands.proofs.generated.work_on.Goals as goal
-
-pub typed_programs_are_whole-requires : goal.typed_programs_are_whole-requires
-typed_programs_are_whole-requires g c =
-    let n = c.args.methods in
-    subst LeaveResults (sym c.requires.program) (spelled_leave_results (generated n) _ (c.generated_is_typed.ensures.spelled n c.requires.few))
-
-pub report_by_companion-requires : goal.report_by_companion-requires
-report_by_companion-requires g c =
-    let n = c.args.methods in
-    subst LeaveResults (sym c.requires.program) (spelled_leave_results (generated n) _ (c.generated_is_typed.ensures.spelled n c.requires.few))
 
 pub returns-clause-report : goal.returns-clause-report
 returns-clause-report g c =
@@ -37,3 +26,8 @@ returns-clause-report g c =
 
 pub returns-in_err-solver-clause-companion_back : goal.returns-in_err-solver-clause-companion_back
 returns-in_err-solver-clause-companion_back g c = rests_back _ refl
+
+pub report_by_companion-requires : goal.report_by_companion-requires
+report_by_companion-requires g c =
+    let n = c.args.methods in
+    spelled_numerals (generated n) (written_of c.args.typed.now) (subst (λ w. Spells (generated n) w) (sym c.requires.program) (c.generated_is_typed.ensures.spelled n c.requires.few))
