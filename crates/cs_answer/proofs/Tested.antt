@@ -2,8 +2,9 @@
 use Rattle.std.proofs.Common.{◌≡◌, inl, inr, zero, suc, ◌≤◌, nat_le, Bool, true, false, not, ◌&&◌, ◌||◌, List, [], ◌∷◌, Option, Some, None, refl, sym, ap, ◌∙◌, subst}
 use Rattle.std.specs.Bool.{Decides}
 use Rattle.std.specs.List.{list_all, list_any}
-use Rattle.std.proofs.lemmas.Bool.{false≢true, leb-true, le-leb}
+use Rattle.std.proofs.lemmas.Bool.{false≢true, leb-true, le-leb, not-true, or_parts}
 use Rattle.std.proofs.lemmas.Bool.Decides.{Decides-and}
+use Rattle.std.proofs.lemmas.Option.{same_Some}
 use Rattle.vx_terms.specs.Sorts.{Sort, IntSort, BoolSort, RealSort, RefSort, SnapSort, OtherSort}
 use Rattle.vx_terms.specs.Terms.{Term, sort_of}
 use Rattle.vx_terms.specs.Interpretations.{Each}
@@ -20,30 +21,19 @@ use Rattle.cs_answer.specs.Causes.{is_number_sort, is_number}
 use Rattle.cs_answer.specs.Few.{few_limit, bool_count, IsFew}
 use Rattle.cs_answer.specs.Tests.{are_few, is_bool_sort, is_assertion, are_formed, is_few}
 
-some_is : {A : Type 0} {x y : A} → Some x ≡ Some y → x ≡ y
-some_is e = cc
-
 -- ---- none of a list, and each
-
-not_true : (b : Bool) → not b ≡ true → b ≡ false
-not_true true e = absurd (false≢true e)
-not_true false e = refl
-
-neither : (a b : Bool) → (a || b) ≡ false → (a ≡ false) × (b ≡ false)
-neither true b e = absurd (false≢true (sym e))
-neither false b e = (refl, e)
 
 none_of : {A : Type 0} (test : A → Bool) (xs : List A) → list_any test xs ≡ false → (x : A) → Contains xs x → test x ≡ false
 none_of test [] e x (n, at) = cc
-none_of test (y ∷ xs) e x (zero, at) = subst (λ z. test z ≡ false) (some_is at) (neither (test y) (list_any test xs) e).0
-none_of test (y ∷ xs) e x (suc n, at) = none_of test xs (neither (test y) (list_any test xs) e).1 x (n, at)
+none_of test (y ∷ xs) e x (zero, at) = subst (λ z. test z ≡ false) (same_Some _ _ at) (or_parts (test y) (list_any test xs) e).0
+none_of test (y ∷ xs) e x (suc n, at) = none_of test xs (or_parts (test y) (list_any test xs) e).1 x (n, at)
 
 any_not : {A : Type 0} (test : A → Bool) (xs : List A) → ((x : A) → Contains xs x → test x ≡ false) → list_any test xs ≡ false
 any_not test [] h = refl
 any_not test (x ∷ xs) h = ap (λ b. b || list_any test xs) (h x (0, refl)) ∙ any_not test xs (λ y at. h y (suc at.0, at.1))
 
 none_decided : {A : Type 0} (test : A → Bool) (xs : List A) → Decides (not (list_any test xs)) ((x : A) → Contains xs x → test x ≡ false)
-none_decided test xs = (λ e. none_of test xs (not_true (list_any test xs) e), λ h. ap not (any_not test xs h))
+none_decided test xs = (λ e. none_of test xs (not-true (list_any test xs) e), λ h. ap not (any_not test xs h))
 
 each_decided : {A : Type 0} (test : A → Bool) (P : A → Type 0) → ((x : A) → Decides (test x) (P x)) → (xs : List A) → Decides (list_all test xs) (Each P xs)
 each_decided test P one [] = (λ e. tt, λ h. refl)

@@ -5,7 +5,7 @@ use Rattle.std.specs.Ordering.{int_eq}
 use Rattle.vx_frac.specs.Fraction.{fraction}
 use Rattle.vx_terms.specs.Sorts.{Sort, IntSort, RealSort, Operator, Multiply, Div, Mod}
 use Rattle.vx_terms.specs.Terms.{Term, Number, Part, Binary, sort_of}
-use Rattle.cs_calls.specs.Calls.{call_fits}
+use Rattle.cs_meter.specs.Calls.{call_fits}
 use Rattle.cs_meter.specs.Units.{limit}
 use Rattle.cs_certificate.specs.Terms.{numbered}
 use Rattle.cs_certificate.specs.Certificate.{Stack}

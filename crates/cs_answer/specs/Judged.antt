@@ -5,10 +5,10 @@ use Rattle.std.specs.declared.result.Result.{Result}
 use Rattle.vx_frac.specs.Fraction.{fraction}
 use Rattle.vx_frac.specs.declared.Over.{Over as Call}
 use Rattle.vx_terms.specs.Interpretations.{AllTrue}
-use Rattle.cs_calls.specs.Calls.{call_fits}
+use Rattle.cs_meter.specs.Calls.{call_fits}
 use Rattle.cs_certificate.specs.Certificate.{Stack}
-use Rattle.cs_columns.specs.declared.stop.Stop.{Stop}
-use Rattle.cs_columns.specs.declared.stop.Stop.TheVariants as stops
+use Rattle.cs_sums.specs.declared.stop.Stop.{Stop}
+use Rattle.cs_sums.specs.declared.stop.Stop.TheVariants as stops
 use Rattle.cs_farkas.specs.Sums as sums
 use Rattle.cs_meter.specs.Units.{limit}
 use Rattle.cs_model.specs.declared.tables.Model.{Model}

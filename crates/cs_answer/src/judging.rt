@@ -11,7 +11,7 @@ ghost use Rattle.cs_proof.specs.declared.step.Step.{Step};
 ghost use Rattle.cs_proof.specs.CheckerView.{Closes};
 ghost use Rattle.cs_proof.specs.Fits.{seen};
 ghost use Rattle.cs_proof.specs.Views.{written};
-ghost use Rattle.cs_columns.specs.declared.stop.Stop.TheVariants as stops;
+ghost use Rattle.cs_sums.specs.declared.stop.Stop.TheVariants as stops;
 ghost use Rattle.cs_meter.specs.Units.{limit};
 ghost use Rattle.cs_model.specs.declared.tables.Model.{Model};
 ghost use Rattle.cs_answer.specs.Causes.{IsCause, is_nonlinear_at, has_number};
@@ -20,8 +20,8 @@ ghost use Rattle.cs_answer.specs.Judged.{HasCause, IsByText, IsByChecker, IsByMo
 
 use crate::answer::{Answer, Cause};
 use crate::nonlinear::{has_number, is_nonlinear_at};
-use cs_calls::leaves;
-use cs_columns::Stop;
+use cs_meter::leaves;
+use cs_sums::Stop;
 use cs_meter::{LIMIT, Meter};
 use cs_model::{Model, is_model};
 use cs_proof::{Checker, Stack, Step, Want, finished_refutes};

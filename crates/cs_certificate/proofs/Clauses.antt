@@ -1,5 +1,7 @@
 -- Truth of literals and clauses.
-use Rattle.std.proofs.Common.{◌≡◌, ℕ, zero, suc, Bool, true, false, not, ◌||◌, List, [], ◌∷◌, ◌++◌, map, Some, refl, ap, subst, ◌⊎◌, inl, inr}
+use Rattle.std.proofs.Common.{◌≡◌, ℕ, zero, suc, Bool, true, false, not, ◌||◌, List, [], ◌∷◌, ◌++◌, map, refl, ap, subst, ◌⊎◌, inl, inr}
+use Rattle.std.proofs.lemmas.Option.{same_Some}
+use Rattle.std.proofs.lemmas.Bool.{not-true, not_from_false, not-false}
 use Rattle.vx_terms.specs.Terms.{Term}
 use Rattle.vx_terms.specs.Interpretations.{Interpretation, as_bool, value, Each}
 use Rattle.cs_certificate.specs.Certificate.{Literal, Yes, No, negated, Clause, At}
@@ -17,10 +19,6 @@ clause_true i (l ∷ ls) = literal_true i l || clause_true i ls
 
 pub record Holds (i : Interpretation) (c : Clause) : Type 0 where
   pub holds : clause_true i c ≡ true
-
-pub true_or_false : (b : Bool) → (b ≡ true) ⊎ (b ≡ false)
-true_or_false true = inl refl
-true_or_false false = inr refl
 
 pub or_left : (a b : Bool) → a ≡ true → a || b ≡ true
 or_left true b e = refl
@@ -47,35 +45,20 @@ append_right i (l ∷ c) d e = or_right (literal_true i l) _ (append_right i c d
 
 pub each_at : {A : Type 0} (P : A → Type 0) (xs : List A) (n : ℕ) (x : A) → Each P xs → At xs n x → P x
 each_at P [] n x h e = cc
-each_at P (y ∷ ys) zero x h e = subst P (some_eq e) h.0
-  where
-    some_eq : {A : Type 0} {x y : A} → Some x ≡ Some y → x ≡ y
-    some_eq e = cc
+each_at P (y ∷ ys) zero x h e = subst P (same_Some _ _ e) h.0
 each_at P (y ∷ ys) (suc n) x h e = each_at P ys n x h.1 e
 
 pub each_append : {A : Type 0} (P : A → Type 0) (xs : List A) (x : A) → Each P xs → P x → Each P (xs ++ x ∷ [])
 each_append P [] x h p = (p, tt)
 each_append P (y ∷ ys) x h p = (h.0, each_append P ys x h.1 p)
 
-not_true : (b : Bool) → not b ≡ true → b ≡ false
-not_true true e = cc
-not_true false e = refl
-
-not_not : (b : Bool) → b ≡ false → not b ≡ true
-not_not true e = cc
-not_not false e = refl
-
 pub negated_true : (i : Interpretation) (l : Literal) → literal_true i (negated l) ≡ true → literal_true i l ≡ false
-negated_true i (Yes t) e = not_true (is_true i t) e
+negated_true i (Yes t) e = not-true (is_true i t) e
 negated_true i (No t) e = ap not e
 
 pub false_negated : (i : Interpretation) (l : Literal) → literal_true i l ≡ false → literal_true i (negated l) ≡ true
-false_negated i (Yes t) e = not_not (is_true i t) e
-false_negated i (No t) e = not_false (is_true i t) e
-  where
-    not_false : (b : Bool) → not b ≡ false → b ≡ true
-    not_false true e = refl
-    not_false false e = cc
+false_negated i (Yes t) e = not_from_false (is_true i t) e
+false_negated i (No t) e = not-false (is_true i t) e
 
 or_false : (a b : Bool) → a || b ≡ false → (a ≡ false) × (b ≡ false)
 or_false true b e = cc

@@ -8,3 +8,15 @@ pub mod Combination
 pub mod Refutation
 pub mod Finished
 pub mod Worked
+pub mod Heads
+pub mod Find
+pub mod Equalities
+pub mod Look
+pub mod Chains
+pub mod Comparisons
+pub mod Picks
+pub mod Divisions
+pub mod Definitions
+pub mod Hints
+pub mod Bridged
+pub mod Marked

@@ -3,6 +3,7 @@ use Rattle.std.proofs.Common.{◌≡◌, zero, suc, ◌+◌, ◌-◌, ◌*◌, �
 use Rattle.std.specs.Prelude.{int_lt, int_le}
 use Rattle.std.specs.Int.{int_div_euclid, int_rem_euclid}
 use Rattle.std.proofs.lemmas.Int.{ints}
+use Rattle.std.proofs.lemmas.Bool.{cases_Bool}
 use borrow.Author.Differences.{up, down, same_in, lt-false, lt_in, le_in, le-false, sum_is_lem, neg_is}
 use Rattle.vx_frac.specs.Fractions.{Fraction, denominator, same_fraction, is_below}
 use Rattle.vx_frac.proofs.Lowest.{lowest-same}
@@ -13,7 +14,7 @@ use Rattle.vx_terms.specs.Interpretations.{IntElement, RealElement, as_int, as_f
 use Rattle.cs_certificate.specs.Terms.{HasSort}
 use Rattle.cs_certificate.specs.Certificate.{Yes, State, Equates, IsNumberSort, divided}
 use Rattle.cs_certificate.proofs.Values.{int_of, real_of, real_lowest, less_in, at_most_in}
-use Rattle.cs_certificate.proofs.Clauses.{is_true, Holds, true_or_false, or_left, or_right}
+use Rattle.cs_certificate.proofs.Clauses.{is_true, Holds, or_left, or_right}
 use Rattle.cs_certificate.proofs.Steps.{equates_true}
 
 pub from_T : (b : Bool) → T b → b ≡ true
@@ -21,7 +22,7 @@ from_T true t = refl
 from_T false t = absurd t
 
 split_ints : (m z : ℤ) → int_le m z || (int_le (z +ℤ pos 1) m || false) ≡ true
-split_ints m z = elim (true_or_false (int_le m z)) [
+split_ints m z = elim (cases_Bool (int_le m z)) [
   | inl h ↦ or_left (int_le m z) _ h
   | inr h ↦ or_right (int_le m z) _ (or_left (int_le (z +ℤ pos 1) m) false (from_T _ (le_in (z +ℤ pos 1) m (above m z h))))
 ]

@@ -1,6 +1,8 @@
 -- The clause of a contradictory combination holds.
-use Rattle.std.proofs.Common.{◌≡◌, ℕ, zero, suc, ◌+◌, ◌*◌, ◌<◌, ℤ, pos, negsuc, ◌*ℤ◌, neg_ℤ, Bool, true, false, not, ◌||◌, List, [], ◌∷◌, ◌++◌, Some, refl, sym, ◌∙◌, ap, ap₂, subst, inl, inr, arith}
+use Rattle.std.proofs.Common.{◌≡◌, ℕ, zero, suc, ◌+◌, ◌*◌, ◌<◌, ℤ, pos, negsuc, ◌*ℤ◌, neg_ℤ, Bool, true, false, ◌||◌, List, [], ◌∷◌, ◌++◌, refl, sym, ◌∙◌, ap, ap₂, subst, inl, inr, arith}
 use Rattle.std.specs.Prelude.{int_lt, int_le}
+use Rattle.std.proofs.lemmas.Bool.{not-false, cases_Bool}
+use Rattle.std.proofs.lemmas.Option.{same_Some}
 use borrow.Author.Differences.{up, down, lt-true, lt-false, le-true, le-false, neg_is, same_out, lt_in, le_in, product_is}
 use Rattle.vx_frac.specs.Fractions.{Fraction, full, denominator, whole, sum, minus, product, is_below, at_most}
 use Rattle.vx_terms.specs.Sorts.{Sort, IntSort, BoolSort, RealSort, RefSort, SnapSort, OtherSort}
@@ -10,7 +12,7 @@ use Rattle.cs_certificate.specs.Terms.{HasSort}
 use Rattle.cs_certificate.specs.Linear.{minus_one, linear, Column, combination, Row, Constraint, read, one_more, Relation, AtMostZero, BelowZero, IsZero}
 use Rattle.cs_certificate.specs.Certificate.{Literal, Clause, At, IsNumberSort, Constrains, not-less, not-at-most, less as below, at-most, equals, MayMultiply, Rows, no-rows, one-row, IsStrict, IsContradiction}
 use Rattle.cs_certificate.proofs.Fractions.{Eq, eq_refl, eq_sym, eq_trans, sum_eq, one_product, minus_one_product, NonPositive, Negative, Zero, nonpositive_eq, negative_eq, zero_eq, nonpositive_from_negative, zero_nonpositive, sum_parts, sum_nonpositive, sum_negative, sum_zero, sum_comm, product_nonpositive, product_negative, product_zero_left, product_zero_right, nonpositive_part, negative_part, zero_from, sum_zero_right}
-use Rattle.cs_certificate.proofs.Clauses.{literal_true, clause_true, Holds, true_or_false}
+use Rattle.cs_certificate.proofs.Clauses.{literal_true, clause_true, Holds}
 use Rattle.cs_certificate.proofs.Numbers.{from_T}
 use Rattle.cs_certificate.proofs.Values.{element_is, as_number, number, int_of, real_of, less_in, at_most_in, TwoNumbers, two_ints, two_reals, two_numbers}
 use Rattle.cs_certificate.proofs.Combination.{parts_value, parts_append, linear_value, columns_value, rows_value, combination_value}
@@ -96,10 +98,6 @@ flipped x y e = let l = lt-false x y e in from_T _ (le_in y x (omega arith))
 
 flipped_le : (x y : ℤ) → int_le x y ≡ false → int_lt y x ≡ true
 flipped_le x y e = let l = le-false x y e in from_T _ (lt_in y x (omega arith))
-
-not_false : (b : Bool) → not b ≡ false → b ≡ true
-not_false true e = refl
-not_false false e = cc
 
 signed_at_most : (i : Interpretation) (s : Sort) (a b : Term) → IsNumberSort s → HasSort a s → HasSort b s → at_most_in (value i a) (value i b) ≡ true → NonPositive (difference (number i a) (number i b))
 unfolding difference
@@ -213,11 +211,11 @@ row_signed i s (not-less a b) n p q e =
     at_most_zero (row_at_most i s record { left = b; right = a; relation = AtMostZero } refl n p q (signed_at_most i s b a n p q (flipped_value (value i a) (value i b) (two_numbers i a b s n q p) e)))
 row_signed i s (not-at-most a b) n p q e =
     row_below i s record { left = b; right = a; relation = BelowZero } refl n p q (flipped_value_le (value i a) (value i b) (two_numbers i a b s n q p) e)
-row_signed i s (below a b) n p q e = row_below i s record { left = a; right = b; relation = BelowZero } refl n p q (not_false (less_in (value i a) (value i b)) e)
+row_signed i s (below a b) n p q e = row_below i s record { left = a; right = b; relation = BelowZero } refl n p q (not-false (less_in (value i a) (value i b)) e)
 row_signed i s (at-most a b) n p q e =
-    at_most_zero (row_at_most i s record { left = a; right = b; relation = AtMostZero } refl n p q (signed_at_most i s a b n p q (not_false (at_most_in (value i a) (value i b)) e)))
+    at_most_zero (row_at_most i s record { left = a; right = b; relation = AtMostZero } refl n p q (signed_at_most i s a b n p q (not-false (at_most_in (value i a) (value i b)) e)))
 row_signed i s (equals a b) n p q e =
-    is_zero (row_zero i s record { left = a; right = b; relation = IsZero } refl n p q (eq_difference (number i a) (number i b) (same_number (element_is (value i a) (value i b) (not_false (same_element (value i a) (value i b)) e)))))
+    is_zero (row_zero i s record { left = a; right = b; relation = IsZero } refl n p q (eq_difference (number i a) (number i b) (same_number (element_is (value i a) (value i b) (not-false (same_element (value i a) (value i b)) e)))))
 
 -- ---- the sum of the rows
 nonneg_down : (z : ℤ) → int_le (pos 0) z ≡ true → down z ≡ 0
@@ -259,13 +257,10 @@ pub rows_negative : (i : Interpretation) (s : Sort) {ls : Clause} {ms : List Fra
 rows_negative i s n no-rows e k r a strict = cc
 rows_negative i s n (one-row {l = l} {c = c} {m = m} {ls = ls} {rs = rs} con p q may rest) e zero r a strict =
     let f = or_false (literal_true i l) (clause_true i ls) e in
-    let is : record { multiplier = m; constraint = c } ≡ r = some_eq a in
+    let is : record { multiplier = m; constraint = c } ≡ r = same_Some _ _ a in
     let rel : c.relation ≡ BelowZero = ap (λ x. x.constraint.relation) is ∙ strict.1 in
     let mul : int_lt (pos 0) m.numerator ≡ true = ap (λ x. int_lt (pos 0) x.multiplier.numerator) is ∙ strict.2 in
     sum_negative (negative_signed m (parts_value i (read s c)) s c.relation may strict.0 rel mul (row_signed i s con n p q f.0)) (rows_nonpositive i s n rest f.1)
-  where
-    some_eq : {A : Type 0} {x y : A} → Some x ≡ Some y → x ≡ y
-    some_eq e = cc
 rows_negative i s n (one-row {l = l} {c = c} {m = m} {ls = ls} con p q may rest) e (suc k) r a strict =
     let f = or_false (literal_true i l) (clause_true i ls) e in
     sum_negative_right (multiplied m (parts_value i (read s c)) s c.relation may (row_signed i s con n p q f.0)) (rows_negative i s n rest f.1 k r a strict)
@@ -292,7 +287,7 @@ no_model i s {rs = rs} n rows k e =
     ]
 
 pub farkas_holds : (i : Interpretation) (s : Sort) (c : Clause) {ms : List Fraction} {rs : List Row} → IsNumberSort s → Rows s c ms rs → IsContradiction s rs → Holds i c
-farkas_holds i s c n rows k = elim (true_or_false (clause_true i c)) [
+farkas_holds i s c n rows k = elim (cases_Bool (clause_true i c)) [
   | inl h ↦ record { holds = h }
   | inr h ↦ absurd (no_model i s n rows k h)
 ]

@@ -1,12 +1,13 @@
 -- What each step derives holds, but for combinations.
 use Rattle.std.proofs.Common.{◌≡◌, ℕ, zero, suc, Bool, true, false, not, cond, ◌&&◌, ◌||◌, List, [], ◌∷◌, ◌++◌, map, Some, refl, sym, ◌∙◌, ap, ap₂, ◌⊎◌, inl, inr}
+use Rattle.std.proofs.lemmas.Bool.{cases_Bool}
 use Rattle.vx_terms.specs.Sorts.{BoolSort}
 use Rattle.vx_terms.specs.Terms.{Term, Ite, same_bool}
 use Rattle.vx_terms.specs.Interpretations.{Element, as_bool, same_element, Interpretation, value, all_true, some_true, Each}
 use Rattle.cs_certificate.specs.Terms.{equal, HasSort}
 use Rattle.cs_certificate.specs.Certificate.{Literal, Yes, No, negated, Clause, State, At, Contains, Equates, IsAnd, and-of-two, and-of-more, IsOr, or-of-two, or-of-more, Defines, true-is, false-is, not-0, not-1, and-part, and-all, or-part, or-all, implies-0, implies-1, implies-2, ite-0, ite-1, ite-2, ite-3, equal-0, equal-1, equal-2, equal-3, Links, end, link, Pairs, no-pairs, same, differ, LeavesNone, Refutes, ends, forces}
 use Rattle.cs_certificate.proofs.Values.{element_is, is_element, values_are, bool_of}
-use Rattle.cs_certificate.proofs.Clauses.{is_true, literal_true, clause_true, Holds, true_or_false, or_left, or_right, or_either, append_left, append_right, each_at, each_append, negated_true, all_negated}
+use Rattle.cs_certificate.proofs.Clauses.{is_true, literal_true, clause_true, Holds, or_left, or_right, or_either, append_left, append_right, each_at, each_append, negated_true, all_negated}
 
 -- ---- the table of `def`
 not_first : (b : Bool) → not (not b) || (not b || false) ≡ true
@@ -178,7 +179,7 @@ true_equates i s {a = a} {b = b} q h = elim q.equality [
 
 pub links_hold : (i : Interpretation) (s : State) {t u : Term} {ts : List Term} {c : Clause} → Links s t ts u c → (clause_true i c ≡ true) ⊎ (value i t ≡ value i u)
 links_hold i s (end t) = inr refl
-links_hold i s (link {e = e} {c = c} q l) = elim (true_or_false (is_true i e)) [
+links_hold i s (link {e = e} {c = c} q l) = elim (cases_Bool (is_true i e)) [
   | inl h ↦ elim (links_hold i s l) [
     | inl g ↦ inl (or_right (not (is_true i e)) _ g)
     | inr g ↦ inr (true_equates i s q h ∙ g)
@@ -192,7 +193,7 @@ pairs_hold i s (same {a = a} p) = elim (pairs_hold i s p) [
   | inl g ↦ inl g
   | inr g ↦ inr (ap (λ es. value i a ∷ es) g)
 ]
-pairs_hold i s (differ {e = e} {c = c} n q p) = elim (true_or_false (is_true i e)) [
+pairs_hold i s (differ {e = e} {c = c} n q p) = elim (cases_Bool (is_true i e)) [
   | inl h ↦ elim (pairs_hold i s p) [
     | inl g ↦ inl (or_right (not (is_true i e)) _ g)
     | inr g ↦ inr (ap₂ (λ d es. d ∷ es) (true_equates i s q h) g)
@@ -232,7 +233,7 @@ refutes_all i s k h (forces {assumed = assumed} {h = n} {c = c} {l = l} e fresh 
     refutes_all i s k (each_append (λ l. literal_true i l ≡ true) assumed l h (only_left i assumed c l h left.1 (each_at (Holds i) s.clauses n c k e).holds)) r
 
 pub propagate_holds : (i : Interpretation) (s : State) (c : Clause) {hs : List ℕ} → Each (Holds i) s.clauses → Refutes s (map negated c) hs → Holds i c
-propagate_holds i s c k r = elim (true_or_false (clause_true i c)) [
+propagate_holds i s c k r = elim (cases_Bool (clause_true i c)) [
   | inl h ↦ record { holds = h }
   | inr h ↦ absurd (refutes_all i s k (all_negated i c h) r)
 ]
@@ -242,7 +243,7 @@ pick_holds i s c x y e q = record { holds = denies (is_true i c) (is_true i e) (
 
 pub unpicked_holds : (i : Interpretation) (s : State) (c x y e : Term) → Equates s (Ite c x y) y e → Holds i (Yes c ∷ Yes e ∷ [])
 unpicked_holds i s c x y e q = record {
-  holds = elim (true_or_false (is_true i c)) [
+  holds = elim (cases_Bool (is_true i c)) [
     | inl h ↦ or_left (is_true i c) _ h
     | inr h ↦ or_right (is_true i c) _ (or_left (is_true i e) false (equates_true i s q (ap (λ b. cond b (value i x) (value i y)) h)))
   ];

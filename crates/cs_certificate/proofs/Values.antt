@@ -1,11 +1,12 @@
 -- Values of terms: by their heads, of their sorts, and as numbers.
 use Rattle.std.proofs.Common.{◌≡◌, ◌⊎◌, inl, inr, ℤ, pos, Bool, true, false, not, cond, List, [], ◌∷◌, map, refl, sym, ◌∙◌, ap, ap₂, subst, eqb-true}
 use Rattle.std.specs.Prelude.{int_lt, int_le}
+use Rattle.std.proofs.lemmas.Bool.{and_parts}
 use Rattle.vx_frac.specs.Fractions.{Fraction, whole, lowest, is_below, at_most}
 use Rattle.vx_terms.specs.Sorts.{Sort, IntSort, BoolSort, RealSort}
 use Rattle.vx_terms.specs.Terms.{Term, Truth, Number, Part, Constant, Apply, Not, Binary, Ite, AllOf, SomeOf, Terms, NoTerms, MoreTerms}
 use Rattle.vx_terms.specs.Interpretations.{Tree, Empty, IntLeaf, BoolLeaf, RefLeaf, PermLeaf, Pair, Element, IntElement, BoolElement, RealElement, TreeElement, as_bool, as_int, as_fraction, as_sort, same_tree, same_element, Interpretation, on_numbers, operate, all_true, some_true, value, values}
-use Rattle.vx_terms.proofs.Same.{and_parts, int_is, bool_is, fraction_is}
+use Rattle.vx_terms.proofs.Same.{int_is, bool_is, fraction_is}
 use Rattle.vx_terms.proofs.Values.{bool_value, int_value, real_element, value_of_sort, element_same}
 use Rattle.cs_certificate.specs.Terms.{Head, TruthHead, NumberHead, PartHead, ConstantHead, ApplyHead, BinaryHead, NotHead, IteHead, AllHead, SomeHead, head, items, parts, HasSort}
 

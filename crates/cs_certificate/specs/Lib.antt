@@ -3,3 +3,10 @@ pub mod Linear
 pub mod Certificate
 pub mod Law
 pub mod Worked
+pub mod Nodes
+pub mod Laws
+pub mod Steps
+pub mod Examples
+pub mod Hints
+pub mod Bridge
+pub mod Marks

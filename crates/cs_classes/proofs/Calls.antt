@@ -1,11 +1,13 @@
 -- The first match of a call has its element.
-use Rattle.std.proofs.Common.{◌≡◌, zero, suc, Bool, true, false, ◌&&◌, List, [], ◌∷◌, Some, refl, sym, ◌∙◌, ap, ap₂, subst, true≢false}
+use Rattle.std.proofs.Common.{◌≡◌, zero, suc, Bool, true, false, ◌&&◌, List, [], ◌∷◌, refl, sym, ◌∙◌, ap, ap₂, subst, true≢false}
 use Rattle.std.specs.Prelude.{if◌then◌else◌}
+use Rattle.std.proofs.lemmas.Option.{same_Some}
+use Rattle.std.proofs.lemmas.Bool.{and_parts}
 use Rattle.vx_terms.specs.Sorts.{Sort, Symbol, same_symbol, same_sort}
 use Rattle.vx_terms.specs.Terms.{Term, Constant, Apply}
 use Rattle.vx_terms.specs.Views.{sort, symbol}
 use Rattle.vx_terms.specs.Interpretations.{Element}
-use Rattle.vx_terms.proofs.Same.{and_parts, symbol_is, sort_is}
+use Rattle.vx_terms.proofs.Same.{symbol_is, sort_is}
 use Rattle.vx_terms.proofs.Values.{element_same}
 use Rattle.cs_certificate.specs.Terms.{items}
 use Rattle.cs_certificate.specs.Certificate.{Contains}
@@ -17,9 +19,6 @@ use Rattle.cs_model.specs.declared.tables.Entry.{Entry}
 use Rattle.cs_classes.specs.Elements.{Assignment, element_of, elements_of}
 use Rattle.cs_classes.specs.Agreement.{IsCall, constant, applies, Agrees}
 use Rattle.cs_classes.specs.Models.{GivesCalls, is_call, called, interpretation_of, IsEntry, Tabulates}
-
-some_is : {A : Type 0} {x y : A} → Some x ≡ Some y → x ≡ y
-some_is e = cc
 
 -- ---- what is the same, and is itself
 both : (a b : Bool) → a ≡ true → b ≡ true → a && b ≡ true
@@ -77,7 +76,7 @@ module _ (all : List Term) (s : Assignment) (agrees : Agrees all s) (t : Term) (
 
   rest : (u : Term) (us : List Term) → is_call s f a (elements_of s xs) u ≡ false → Contains (u ∷ us) t → Contains us t
   rest u us is (zero, e) =
-      let h : is_call s f a (elements_of s xs) u ≡ true = subst (λ v. is_call s f a (elements_of s xs) v ≡ true) (sym (some_is e)) (call_matches s f a xs t call) in
+      let h : is_call s f a (elements_of s xs) u ≡ true = subst (λ v. is_call s f a (elements_of s xs) v ≡ true) (sym (same_Some _ _ e)) (call_matches s f a xs t call) in
       absurd (true≢false (sym h ∙ is))
   rest u us is (suc k, e) = (k, e)
 
@@ -110,7 +109,7 @@ module _ (all : List Term) (s : Assignment) (agrees : Agrees all s) (t : Term) (
 
   other_entries : (x y : Entry) (xs' : List Entry) → finds f a (elements_of s xs) x ≡ false → IsEntry s t y → Contains (x ∷ xs') y → Contains xs' y
   other_entries x y xs' is e (zero, p) =
-      let h : finds f a (elements_of s xs) x ≡ true = subst (λ z. finds f a (elements_of s xs) z ≡ true) (sym (some_is p)) (entry_found s f a xs t y call e) in
+      let h : finds f a (elements_of s xs) x ≡ true = subst (λ z. finds f a (elements_of s xs) z ≡ true) (sym (same_Some _ _ p)) (entry_found s f a xs t y call e) in
       absurd (true≢false (sym h ∙ is))
   other_entries x y xs' is e (suc k, p) = (k, p)
 

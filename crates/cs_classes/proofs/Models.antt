@@ -1,6 +1,7 @@
 -- From an interpretation to an assignment that agrees.
-use Rattle.std.proofs.Common.{◌≡◌, inl, inr, ℕ, zero, suc, pos, Bool, true, false, not, cond, ◌||◌, List, [], ◌∷◌, map, Some, refl, sym, ◌∙◌, ap, ap₂, subst, true≢false}
+use Rattle.std.proofs.Common.{◌≡◌, inl, inr, ℕ, zero, suc, pos, Bool, true, false, not, cond, ◌||◌, List, [], ◌∷◌, map, refl, sym, ◌∙◌, ap, ap₂, subst, true≢false}
 use Rattle.std.specs.Prelude.{if◌then◌else◌}
+use Rattle.std.proofs.lemmas.Option.{same_Some}
 use Rattle.vx_terms.specs.Sorts.{Sort, IntSort, BoolSort, RealSort, RefSort, SnapSort, OtherSort, Symbol}
 use Rattle.vx_terms.specs.Terms.{Term, Constant, Apply, sort_of}
 use Rattle.vx_terms.specs.Formed.{Formed}
@@ -13,9 +14,6 @@ use Rattle.cs_certificate.proofs.Clauses.{clause_true}
 use Rattle.cs_certificate.proofs.Steps.{define_holds}
 use Rattle.cs_classes.specs.Elements.{Assignment, element_at, element_of, elements_of}
 use Rattle.cs_classes.specs.Agreement.{satisfies, IsCall, constant, applies, IsWhole, HasNoNumber, Agrees}
-
-some_is : {A : Type 0} {x y : A} → Some x ≡ Some y → x ≡ y
-some_is e = cc
 
 -- the place of the first term with this value, and the value of the term at a place
 pub place_of : Interpretation → List Term → Element → ℕ
@@ -33,7 +31,7 @@ placed i [] t (k, e) = cc
 placed i (u ∷ us) t m = go (same_element (value i u) (value i t)) refl (placed i us t)
   where
     rest : same_element (value i u) (value i t) ≡ false → Contains (u ∷ us) t → Contains us t
-    rest f (zero, e) = absurd (true≢false (sym (is_element (value i u) (value i t) (ap (value i) (some_is e))) ∙ f))
+    rest f (zero, e) = absurd (true≢false (sym (is_element (value i u) (value i t) (ap (value i) (same_Some _ _ e))) ∙ f))
     rest f (suc k, e) = (k, e)
 
     go : (b : Bool) → same_element (value i u) (value i t) ≡ b → (Contains us t → value_at i us (place_of i us (value i t)) ≡ value i t) →

@@ -1,11 +1,12 @@
 -- What is understood over the live levels may follow there.
 use Rattle.std.proofs.Common.{◌≡◌, ℕ, Bool, true, false, List, [], ◌∷◌, None, refl, ap, ap₂, ◌∙◌, sym, subst, true≢false}
 use Rattle.std.specs.Prelude.{if◌then◌else◌}
+use Rattle.std.proofs.lemmas.Bool.{and_parts}
 use Rattle.vx_sexp.specs.Tokens.{is_empty}
 use Rattle.vx_terms.specs.Sorts.{Sort, IntSort, BoolSort, RealSort, RefSort, SnapSort, OtherSort, Symbol, same_sort, same_symbol}
 use Rattle.vx_terms.specs.Terms.{Term, sort_of}
 use Rattle.vx_terms.specs.Interpretations.{Each}
-use Rattle.vx_terms.proofs.Same.{and_parts, sort_is}
+use Rattle.vx_terms.proofs.Same.{sort_is}
 use Rattle.vx_smt_meaning.specs.Commands.{Command, Declared, Level, declared_in}
 use Rattle.vx_smt_meaning.specs.Symbols.{declaration, Declares, sorts_of, UsesDeclared, AllUseDeclared}
 use Rattle.vx_smt_meaning.specs.WellFormed.{names, sorts_in, knows_sort, has_sort, MayFollow}

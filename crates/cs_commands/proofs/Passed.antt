@@ -10,9 +10,6 @@ ok_is e = cc
 pub not_ok : {X : Type 0} {R : Type 0} {e : CommandFault} {x : X} → (let r : Result X CommandFault = Err e in r) ≡ Ok x → R
 not_ok h = cc
 
-pub some_is : {X : Type 0} {x y : X} → Some x ≡ Some y → x ≡ y
-some_is e = cc
-
 pub not_some : {X : Type 0} {R : Type 0} {x : X} → (let o : Option X = None in o) ≡ Some x → R
 not_some h = cc
 

@@ -2,8 +2,9 @@
 use Rattle.std.proofs.Common.{◌≡◌, inl, inr, ℕ, ◌<◌, ◌^◌, not, ◌&&◌, Bool, true, false, ℤ, pos, negsuc, neg_ℤ, List, [], ◌∷◌, ◌++◌, Option, Some, None, Ok, refl, ◌∙◌, sym, subst, arith}
 use Rattle.std.specs.Prelude.{⊤, if◌then◌else◌}
 use Rattle.std.specs.List.{list_all}
-use Rattle.std.proofs.lemmas.Bool.{false≢true}
+use Rattle.std.proofs.lemmas.Bool.{false≢true, and_parts}
 use Rattle.std.specs.declared.result.Result.{Result}
+use Rattle.std.proofs.lemmas.Option.{same_Some}
 use Rattle.vx_frac.specs.Fractions.{Fraction, lowest, sum, product, product_fits, sum_fits}
 use Rattle.vx_frac.proofs.Lowest.{lowest-lowest}
 use Rattle.vx_sexp.specs.Tokens.{is_empty, before_point, behind_point}
@@ -14,7 +15,6 @@ use Rattle.vx_sexp.specs.declared.token.Token.TheVariants.{Open, Close, Atom}
 use Rattle.vx_terms.specs.Sorts.{Symbol, Operator, And, Or, Subtract, same_sort, same_symbol}
 use Rattle.vx_terms.specs.Terms.{Term, Truth, Number, Part, Constant, Apply, Not, Binary, Ite, AllOf, SomeOf, sort_of}
 use Rattle.vx_terms.specs.Interpretations.{Each}
-use Rattle.vx_terms.proofs.Same.{and_parts}
 use Rattle.vx_smt_meaning.specs.Commands.{Declared}
 use Rattle.vx_smt_meaning.specs.Symbols.{Declares}
 use Rattle.vx_smt_text.specs.Unique.{has_three}
@@ -34,7 +34,7 @@ use Rattle.cs_commands.specs.Building as building
 use Rattle.cs_commands.specs.Building.{is_bool, takes, have_sorts, built}
 use Rattle.cs_commands.specs.Terms as terms
 use Rattle.cs_commands.specs.Terms.{is_decimal, Frame, opened, Placed, Whole, Within, placed, closed, go_on, term_from}
-use Rattle.cs_commands.proofs.Passed.{ok_is, not_ok, some_is, not_some, bound, present, passed}
+use Rattle.cs_commands.proofs.Passed.{ok_is, not_ok, not_some, bound, present, passed}
 use Rattle.cs_commands.proofs.Declarations.{first_is, first_later}
 use Rattle.cs_commands.proofs.Small.{IsSmallFraction, IsUnsigned, number_small, multiplied_is, inverse_unsigned, decimal_is}
 
@@ -46,7 +46,7 @@ found_declared [] f d e = not_some e
 found_declared (x ∷ xs) f d e = go (same_symbol f x.symbol) refl (found_declared xs f d)
   where
     go : (b : Bool) → same_symbol f x.symbol ≡ b → (declared_as xs f ≡ Some d → Declares xs d) → Declares (x ∷ xs) d
-    go true h more = inl (some_is (sym (first_is x xs f h) ∙ e))
+    go true h more = inl (same_Some _ _ (sym (first_is x xs f h) ∙ e))
     go false h more = inr (more (sym (first_later x xs f h) ∙ e))
 
 declared_word : (scope : Scope) (x : List ℕ) (d : Declared) → declaration scope x ≡ Ok (Some d) → Declares scope.symbols d
@@ -58,14 +58,14 @@ pub multiplied_lowest : (a b q : Fraction) → multiplied a b ≡ Some q → low
 multiplied_lowest a b q e = go (product_fits a b) e
   where
     go : (fits : Bool) → (if fits then Some (lowest (product a b)) else None) ≡ Some q → lowest q ≡ q
-    go true h = subst (λ x. lowest x ≡ x) (some_is h) (lowest-lowest (product a b))
+    go true h = subst (λ x. lowest x ≡ x) (same_Some _ _ h) (lowest-lowest (product a b))
     go false h = not_some h
 
 summed_lowest : (a b q : Fraction) → summed a b ≡ Some q → lowest q ≡ q
 summed_lowest a b q e = go (sum_fits a b) e
   where
     go : (fits : Bool) → (if fits then Some (lowest (sum a b)) else None) ≡ Some q → lowest q ≡ q
-    go true h = subst (λ x. lowest x ≡ x) (some_is h) (lowest-lowest (sum a b))
+    go true h = subst (λ x. lowest x ≡ x) (same_Some _ _ h) (lowest-lowest (sum a b))
     go false h = not_some h
 
 decimal_lowest : (x : List ℕ) (q : Fraction) → decimal x ≡ Some q → lowest q ≡ q
@@ -141,11 +141,11 @@ module _ (scope : Scope) (P : Term → Type 0) (k : Keeps scope P) where
   operation_keeps o (a ∷ b ∷ c ∷ ts) t h e = many_keeps o (a ∷ b ∷ c ∷ ts) t h refl e
 
   below_keeps : (z : ℤ) (n : ℕ) (t : Term) → P (Part (record { numerator = z; below = n })) → below_zero z n ≡ Some t → P t
-  below_keeps (pos m) n t h e = subst P (some_is e) (k.opposite m n h)
+  below_keeps (pos m) n t h e = subst P (same_Some _ _ e) (k.opposite m n h)
   below_keeps (negsuc m) n t h e = not_some e
 
   negative_keeps : (a t : Term) → P a → negative a ≡ Some t → P t
-  negative_keeps (Number (pos n)) t h e = subst P (some_is e) (k.negated n h)
+  negative_keeps (Number (pos n)) t h e = subst P (same_Some _ _ e) (k.negated n h)
   negative_keeps (Part a) t h e = below_keeps a.numerator a.below t h e
   negative_keeps a t h e = not_some e
 

@@ -4,6 +4,7 @@ use Rattle.std.specs.Prelude.{if◌then◌else◌, nat_abs, neg_ℤ, ◌*ℤ◌,
 use Rattle.std.specs.Option.{option_and_then}
 use Rattle.std.proofs.lemmas.Bool.{ltb-true}
 use Rattle.std.proofs.Math.Nat.{mul-le-mul_left, le_of_mul-le-mul_right}
+use Rattle.std.proofs.lemmas.Option.{same_Some}
 use Rattle.vx_frac.specs.Fractions.{Fraction, denominator, lowest, first_where, makes_whole, least_denominator, with_sign, sum, product, cross_fits, sum_fits, product_fits, fits_i128}
 use Rattle.vx_frac.specs.Fraction.{ratio}
 use Rattle.vx_frac.proofs.Fits.{each_true}
@@ -15,7 +16,7 @@ use Rattle.cs_reader.specs.Items.{◌>>=◌}
 use Rattle.cs_reader.specs.Marks.{numeral}
 use Rattle.cs_reader.specs.Spelling.{over, inverse_of, multiplied, summed, led_by, part_after, decimal}
 use Rattle.cs_commands.specs.Names.{with_digit, digits, number_below}
-use Rattle.cs_commands.proofs.Passed.{some_is, not_some}
+use Rattle.cs_commands.proofs.Passed.{not_some}
 
 -- ---- numerals: a number that is read is below its limit
 
@@ -23,12 +24,12 @@ digit_below : (limit a d m : ℕ) → with_digit limit a d ≡ Some m → m < li
 digit_below limit a d m e = go (is_digit d) (nat_lt (a * 10 + (d - 48)) limit) refl e
   where
     go : (b c : Bool) → nat_lt (a * 10 + (d - 48)) limit ≡ c → (if b && c then Some (a * 10 + (d - 48)) else None) ≡ Some m → m < limit
-    go true true f g = subst (λ n. n < limit) (some_is g) (ltb-true (a * 10 + (d - 48)) limit f)
+    go true true f g = subst (λ n. n < limit) (same_Some _ _ g) (ltb-true (a * 10 + (d - 48)) limit f)
     go true false f g = not_some g
     go false c f g = not_some g
 
 digits_below : (limit a : ℕ) (ds : List ℕ) (n : ℕ) → a < limit → digits limit a ds ≡ Some n → n < limit
-digits_below limit a [] n h e = subst (λ m. m < limit) (some_is e) h
+digits_below limit a [] n h e = subst (λ m. m < limit) (same_Some _ _ e) h
 digits_below limit a (d ∷ ds) n h e = go (with_digit limit a d) refl (λ m k f. digits_below limit m ds n k f) e
   where
     go : (o : Option ℕ) → with_digit limit a d ≡ o → ((m : ℕ) → m < limit → digits limit m ds ≡ Some n → n < limit) → option_and_then (λ m. digits limit m ds) o ≡ Some n → n < limit
@@ -124,7 +125,7 @@ summed_is a b q u v e = go (sum_fits a b) refl e
     go : (fits : Bool) → sum_fits a b ≡ fits → (if fits then Some (lowest (sum a b)) else None) ≡ Some q → IsRead q
     go true h e =
         let all = each_true (fits_i128 (sum a b).numerator) (fits_i128 (denominator a *ℤ denominator b)) (each_true (cross_fits a b) (fits_i128 (sum a b).numerator && fits_i128 (denominator a *ℤ denominator b)) h).1 in
-        subst IsRead (some_is e) (in_lowest (sum a b) (u.0 * suc b.below + v.0 * suc a.below, total) (fits_small (sum a b).numerator (u.0 * suc b.below + v.0 * suc a.below) total all.0, common_small a b (sum a b).below (common_is a b) all.1))
+        subst IsRead (same_Some _ _ e) (in_lowest (sum a b) (u.0 * suc b.below + v.0 * suc a.below, total) (fits_small (sum a b).numerator (u.0 * suc b.below + v.0 * suc a.below) total all.0, common_small a b (sum a b).below (common_is a b) all.1))
     go false h e = not_some e
 
 pub multiplied_is : (a b q : Fraction) → IsUnsigned a → IsUnsigned b → multiplied a b ≡ Some q → IsRead q
@@ -136,12 +137,12 @@ multiplied_is a b q u v e = go (product_fits a b) refl e
     go : (fits : Bool) → product_fits a b ≡ fits → (if fits then Some (lowest (product a b)) else None) ≡ Some q → IsRead q
     go true h e =
         let all = each_true (fits_i128 (a.numerator *ℤ b.numerator)) (fits_i128 (denominator a *ℤ denominator b)) h in
-        subst IsRead (some_is e) (in_lowest (product a b) (u.0 * v.0, total) (fits_small (product a b).numerator (u.0 * v.0) total all.0, common_small a b (product a b).below (common_is a b) all.1))
+        subst IsRead (same_Some _ _ e) (in_lowest (product a b) (u.0 * v.0, total) (fits_small (product a b).numerator (u.0 * v.0) total all.0, common_small a b (product a b).below (common_is a b) all.1))
     go false h e = not_some e
 
 pub inverse_unsigned : (z : ℤ) (d : ℕ) (i : Fraction) → inverse_of z d ≡ Some i → IsUnsigned i
 inverse_unsigned (pos zero) d i e = not_some e
-inverse_unsigned (pos (suc n)) d i e = subst IsUnsigned (some_is e) (over_unsigned (suc d) n)
+inverse_unsigned (pos (suc n)) d i e = subst IsUnsigned (same_Some _ _ e) (over_unsigned (suc d) n)
 inverse_unsigned (negsuc n) d i e = not_some e
 
 -- ---- decimals
@@ -160,7 +161,7 @@ led_is d part q u e = go (is_digit d) e
     go false e = not_some e
 
 after_is : (part q : Fraction) (ds : List ℕ) → IsUnsigned part → part_after part ds ≡ Some q → IsUnsigned q
-after_is part q [] u e = subst IsUnsigned (some_is e) u
+after_is part q [] u e = subst IsUnsigned (same_Some _ _ e) u
 after_is part q (d ∷ ds) u e = let a = undo (part_after part ds) (led_by d) q e in led_is d a.0 q (after_is part a.0 ds u a.1) a.2
 
 pub decimal_is : (x : List ℕ) (q : Fraction) → decimal x ≡ Some q → IsRead q

@@ -1,14 +1,15 @@
 -- An assertion that is understood is well-sorted.
-use Rattle.std.proofs.Common.{◌≡◌, inl, inr, ◌⊎◌, ℕ, suc, ◌+◌, ◌≤◌, Bool, true, false, ◌||◌, pos, neg_ℤ, List, [], ◌∷◌, refl, subst, arith, le_refl}
+use Rattle.std.proofs.Common.{◌≡◌, inl, inr, ◌⊎◌, ℕ, suc, ◌+◌, ◌≤◌, true, ◌||◌, pos, neg_ℤ, List, [], ◌∷◌, subst, arith, le_refl}
 use Rattle.std.specs.Prelude.{⊤}
 use Rattle.std.specs.List.{list_all}
+use Rattle.std.proofs.lemmas.Bool.{or_cases, and_parts}
 use Rattle.vx_frac.specs.Fraction.{ratio}
 use Rattle.vx_frac.proofs.Lowest.{lowest-lowest}
 use Rattle.vx_terms.specs.Sorts.{Sort, IntSort, BoolSort, RealSort, Symbol, Standard, Function, Variable, Named, Operator, And, Or, Implies, Equal, Less, LessEqual, Add, Subtract, Multiply, Div, Mod, Takes, same_sort}
 use Rattle.vx_terms.specs.Terms.{Term, Apply, Binary, Ite, sort_of}
 use Rattle.vx_terms.specs.Formed.{IsKnown, Formed, truth, number, part, constant, applies, nots, binary, ites, all_of, some_of, FormedAll, no_terms, more_terms, FormedBools, no_bools, more_bools}
 use Rattle.vx_terms.specs.Interpretations.{Each}
-use Rattle.vx_terms.proofs.Same.{and_parts, sort_is}
+use Rattle.vx_terms.proofs.Same.{sort_is}
 use Rattle.vx_smt_meaning.specs.Commands.{Command, Assert}
 use Rattle.cs_certificate.specs.Terms.{HasSort}
 use Rattle.cs_reader.specs.Spelling.{listed, over}
@@ -31,12 +32,8 @@ sort_at {n} t a b is f = subst (Formed n t) is f
 at_bool : {n : ℕ} (t : Term) → is_bool t ≡ true → Formed n t (sort_of t) → Formed n t BoolSort
 at_bool t e f = sort_at t (sort_of t) BoolSort (sort_is (sort_of t) BoolSort e) f
 
-either : (a b : Bool) → (a || b) ≡ true → (a ≡ true) ⊎ (b ≡ true)
-either true b e = inl refl
-either false b e = inr e
-
 number_sort : (a : Sort) → is_number_sort a ≡ true → (a ≡ IntSort) ⊎ (a ≡ RealSort)
-number_sort a e = go (either (same_sort a IntSort) (same_sort a RealSort) e)
+number_sort a e = go (or_cases (same_sort a IntSort) (same_sort a RealSort) e)
   where
     go : (same_sort a IntSort ≡ true) ⊎ (same_sort a RealSort ≡ true) → (a ≡ IntSort) ⊎ (a ≡ RealSort)
     go (inl h) = inl (sort_is a IntSort h)

@@ -6,10 +6,10 @@ use Rattle.std.specs.List.{list_all}
 use Rattle.std.proofs.lemmas.Slice.Eq.{bytes_eq-Decides}
 use Rattle.std.proofs.lemmas.Str.{IsUtf8-from_ascii, is_utf8-from_IsUtf8}
 use Rattle.std.proofs.lemmas.Str.Ascii.{IsAscii-nil, IsAscii-cons}
+use Rattle.std.proofs.lemmas.Bool.{and_parts}
 use Rattle.vx_sexp.specs.Characters.{is_digit, is_symbol_byte}
 use Rattle.vx_sexp.specs.Tokens.{is_empty, is_numeral, is_symbol, is_keyword}
 use Rattle.vx_terms.specs.Sorts.{Sort, IntSort, BoolSort, RealSort, RefSort, SnapSort, OtherSort, Symbol, Standard, Function, Variable, Named, Operator, And, Or, Implies, Equal, Less, LessEqual, Add, Subtract, Multiply, Div, Mod}
-use Rattle.vx_terms.proofs.Same.{and_parts}
 use Rattle.vx_smt_meaning.specs.Words as written
 use Rattle.vx_smt_meaning.specs.Names.{IsName, IsFree, IsSortName}
 use Rattle.vx_smt_text.proofs.Words.{numeral_is}

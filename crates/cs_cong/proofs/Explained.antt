@@ -2,6 +2,7 @@
 use Rattle.std.proofs.Common.{◌≡◌, ℕ, zero, suc, ◌<◌, inl, inr, List, [], ◌∷◌, length, min, take, drop, slice_get, Option, Some, None, refl, sym, ◌∙◌, ap, subst, arith}
 use Rattle.std.proofs.lemmas.Bool.{cases_eq}
 use Rattle.std.proofs.lemmas.List.{take-append-drop, length-take}
+use Rattle.std.proofs.lemmas.Option.{slice_get-get_or}
 use Rattle.cs_cong.specs.declared.congruent.Applied.{Applied}
 use Rattle.cs_cong.specs.declared.congruent.Claim.{Claim}
 use Rattle.cs_cong.specs.declared.explain.Chain.{Chain}
@@ -10,7 +11,6 @@ use Rattle.cs_cong.specs.declared.explain.Derived.TheVariants.{Path, Congruent}
 use Rattle.cs_cong.specs.Joined.{Joined, claimed, itself, turned, joined, congruent, AllJoined, no_parts, one_part}
 use Rattle.cs_cong.specs.Explained.{Ends, Joins, AreJoinedBy, IsKnown, by_claim, by_step, turned as known_turned, IsChain, alone, linked, AreEqual, AreCongruent, Follows, IsDerivation, Explains}
 use Rattle.cs_cong.proofs.Stages.{get_front, get_last}
-use Rattle.cs_cong.proofs.Signatures.{get_some}
 use Rattle.cs_cong.proofs.Steps.{chain_ends}
 
 same_ends : (xs : List ℕ) (a b c d : ℕ) → Ends xs a b → Ends xs c d → (a ≡ c) × (b ≡ d)
@@ -59,7 +59,7 @@ earlier terms claims steps n all a b h =
     let k = h.1.0 in
     let within : h.1.0 < length (take n steps) = h.1.1 in
     let long : length (take n steps) ≡ min n (length steps) = length-take n steps in
-    let at : slice_get (take n steps) k ≡ Some d = get_some (take n steps) k d within ∙ ap Some h.1.2 in
+    let at : slice_get (take n steps) k ≡ Some d = slice_get-get_or (take n steps) k d within ∙ ap Some h.1.2 in
     let whole : slice_get steps k ≡ Some d = ap (λ l. slice_get l k) (sym (take-append-drop n steps)) ∙ get_front (take n steps) (drop n steps) k within ∙ at in
     all k (omega (arith, within, long)) d whole a b h.2
 

@@ -5,6 +5,7 @@ use Rattle.std.specs.Ordering.{nat_cmp}
 use Rattle.std.specs.List.{Contains}
 use Rattle.std.proofs.lemmas.Bool.{cases_eq, eqb-true, and_parts}
 use Rattle.std.proofs.lemmas.List.Elements.{All-nil, All-cons, All-head, All-tail, All-weaker, Contains-append_left, Contains-push}
+use Rattle.std.proofs.lemmas.Option.{slice_get-get_or, same_Some}
 use Rattle.cs_cong.specs.declared.congruent.Applied.{Applied}
 use Rattle.cs_cong.specs.declared.congruent.Claim.{Claim}
 use Rattle.cs_cong.specs.declared.explain.Chain.{Chain}
@@ -21,8 +22,7 @@ use Rattle.cs_cong.specs.Marked.{is_marked}
 use Rattle.cs_cong.specs.Needed.{ends, AreMarked, IsMergeKnown, AreKnown, KeepsSteps, HasPath, HasPart, HasFirst, HasCongruence, HasMerge, AreKnownBelow, AreKnownBut, ArePartsMarked, IsBacked, AreBacked, IsReady}
 use Rattle.cs_cong.proofs.Marks.{first_is, other_at}
 use Rattle.cs_cong.proofs.Walks.{walk_leads}
-use Rattle.cs_cong.proofs.Steps.{joined_more, known_more, named_more, one_step, some_same, kept_push}
-use Rattle.cs_cong.proofs.Signatures.{get_some}
+use Rattle.cs_cong.proofs.Steps.{joined_more, known_more, named_more, one_step, kept_push}
 
 -- the edges of a walk are merges before its time
 leads_below : (log : List Merge) (t a b : ℕ) (es : List Edge) → Leads log t a es b → All (λ e. e.merge < t) es
@@ -205,7 +205,7 @@ pub claimed_at : (terms : List Applied) (claims : List Claim) (log : List Merge)
 claimed_at terms claims log k i all lt why = sym (ap (λ w. is_reason terms claims (representative log k) w (merge_at log k).left (merge_at log k).right) why) ∙ all k lt
 
 pub read_term : (terms : List Applied) (a : ℕ) (t : Applied) → a < length terms → t ≡ get_or terms a t → slice_get terms a ≡ Some t
-read_term terms a t lt e = get_some terms a t lt ∙ ap Some (sym e)
+read_term terms a t lt e = slice_get-get_or terms a t lt ∙ ap Some (sym e)
 
 -- the merge of this number has marked what it needs
 pub backed_at : (terms : List Applied) (log : List Merge) (marks : BTreeSet ℕ) (k : ℕ) (m : Merge) (one other : Applied) (xs ys : List ℕ) → m ≡ merge_at log k → slice_get terms m.left ≡ Some one → slice_get terms m.right ≡ Some other → xs ≡ one.parts.items → ys ≡ other.parts.items →
@@ -217,8 +217,8 @@ backed_at terms log marks k m one other xs ys is at bt ex ey c marked s u why at
     let p = parts_same terms (representative log k) (merge_at log k).left (merge_at log k).right one other c left right in
     let mark : all_same (representative log k) one.parts.items other.parts.items ≡ true → ArePartsMarked log marks k one.parts.items other.parts.items =
     subst (λ l. all_same (representative log k) one.parts.items l ≡ true → ArePartsMarked log marks k one.parts.items l) ey (subst (λ l. all_same (representative log k) l ys ≡ true → ArePartsMarked log marks k l ys) ex marked) in
-    subst (λ (x : Applied). ArePartsMarked log marks k x.parts.items u.parts.items) (some_same one s (sym left ∙ at_s))
-    (subst (λ (x : Applied). ArePartsMarked log marks k one.parts.items x.parts.items) (some_same other u (sym right ∙ at_u)) (mark p.1))
+    subst (λ (x : Applied). ArePartsMarked log marks k x.parts.items u.parts.items) (same_Some one s (sym left ∙ at_s))
+    (subst (λ (x : Applied). ArePartsMarked log marks k one.parts.items x.parts.items) (same_Some other u (sym right ∙ at_u)) (mark p.1))
 
 -- what is marked below is known, so what the merge needs is known
 ready_at : (terms : List Applied) (claims : List Claim) (log : List Merge) (marks : BTreeSet ℕ) (named : List ℕ) (steps : List Derived) (k : ℕ) → AreJustified terms claims log → k < length log → is_marked marks k ≡ true →

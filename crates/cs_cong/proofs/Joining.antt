@@ -1,7 +1,7 @@
 -- What is in one class is what follows from the claims.
 use Rattle.std.proofs.Common.{◌≡◌, ℕ, zero, suc, ◌<◌, ◌≤◌, ◌+◌, ◌⊎◌, inl, inr, Bool, true, false, not, nat_eq, cond, ◌&&◌, ◌||◌, List, [], ◌∷◌, length, get_or, slice_get, Option, Some, None, refl, sym, ◌∙◌, ap, ap₂, subst, arith, eq-eqb}
 use Rattle.std.proofs.lemmas.Bool.{cases_eq, cases_lt, eqb-true, and_parts}
-use Rattle.std.proofs.lemmas.Option.{slice_get_past}
+use Rattle.std.proofs.lemmas.Option.{slice_get_past, slice_get-get_or}
 use Rattle.cs_cong.specs.declared.congruent.Applied.{Applied}
 use Rattle.cs_cong.specs.declared.congruent.Claim.{Claim}
 use Rattle.cs_cong.specs.declared.merges.Merge.{Merge}
@@ -10,7 +10,6 @@ use Rattle.cs_cong.specs.declared.merges.Reason.TheVariants.{Claimed, Congruence
 use Rattle.cs_cong.specs.Merged.{nothing, across, representative, current}
 use Rattle.cs_cong.specs.Joined.{is_claimed, Joined, claimed, itself, turned, joined, congruent, AllJoined, no_parts, one_part, all_same, alike, are_congruent, is_reason, AreJustified, denies, AreKept, AreKeptBelow}
 use Rattle.cs_cong.specs.Stages.{IsStage}
-use Rattle.cs_cong.proofs.Signatures.{get_some}
 
 -- the cases of one more merge: merged before, or across the merge, either way
 pub merge_cases : (m : Merge) (f : ℕ → ℕ) (a b : ℕ) → across m f a ≡ across m f b →
@@ -80,7 +79,7 @@ mutual
 
 -- ---- claims that two terms aren't equal
 claim_at : (claims : List Claim) (n : ℕ) (d : Claim) → n < length claims → d ≡ get_or claims n d → slice_get claims n ≡ Some d
-claim_at claims n d lt is = get_some claims n d lt ∙ ap (λ (x : Claim). Some x) (sym is)
+claim_at claims n d lt is = slice_get-get_or claims n d lt ∙ ap (λ (x : Claim). Some x) (sym is)
 
 pub denied : (claims : List Claim) (n : ℕ) (d : Claim) → n < length claims → d ≡ get_or claims n d → not d.equal ≡ true → denies (slice_get claims n) d.left d.right ≡ true
 denied claims n d lt is e =

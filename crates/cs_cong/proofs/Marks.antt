@@ -1,14 +1,15 @@
 -- Marks of merges.
-use Rattle.std.proofs.Common.{◌≡◌, ℕ, ◌<◌, ◌≤◌, inl, inr, Bool, true, false, List, [], ◌∷◌, length, refl, sym, ◌∙◌, ap, subst, arith}
+use Rattle.std.proofs.Common.{◌≡◌, ℕ, ◌<◌, ◌≤◌, inl, inr, true, false, List, [], ◌∷◌, length, refl, sym, ◌∙◌, ap, subst, arith}
 use Rattle.std.specs.BTreeSet.{BTreeSet, IsLowerBound, Updates}
 use Rattle.std.specs.BTreeMap.{is_at}
 use Rattle.std.specs.List.{list_any}
-use Rattle.std.specs.Ordering.{nat_cmp, MatchOrdering, is_eq, is_gt}
+use Rattle.std.specs.Ordering.{nat_cmp, MatchOrdering, is_eq}
 use Rattle.std.specs.declared.cmp.Ordering.{Ordering}
 use Rattle.std.specs.declared.cmp.Ordering.TheVariants.{Less, Equal, Greater}
-use Rattle.std.proofs.lemmas.Bool.{cases_eq, cases_lt}
+use Rattle.std.proofs.lemmas.Bool.{cases_eq, cases_lt, false_from_ne_true}
 use Rattle.std.proofs.lemmas.Cmp.{ranked}
 use Rattle.std.proofs.lemmas.List.Elements.{All-weaker}
+use Rattle.std.proofs.lemmas.Map.Keys.{le_from_not_gt}
 use Rattle.cs_cong.specs.declared.congruent.Applied.{Applied}
 use Rattle.cs_cong.specs.declared.merges.Merge.{Merge}
 use Rattle.cs_cong.specs.declared.paths.Edge.{Edge}
@@ -24,21 +25,9 @@ other_at a b n = go (nat_cmp a b) (ranked a b (nat_cmp a b) refl)
     go Equal e = absurd (n (sym e))
     go Greater lt = refl
 
-not_greater : (a b : ℕ) → is_gt (nat_cmp a b) ≡ false → a ≤ b
-not_greater a b e = go (nat_cmp a b) (ranked a b (nat_cmp a b) refl) e
-  where
-    go : (r : Ordering) → MatchOrdering r (a < b) (a ≡ b) (b < a) → is_gt r ≡ false → a ≤ b
-    go Less lt f = omega arith
-    go Equal is f = omega arith
-    go Greater lt f = absurd (let g : true ≡ false = f in cc)
-
-not_so : (b : Bool) → (b ≡ true → ⊥) → b ≡ false
-not_so true n = absurd (n refl)
-not_so false n = refl
-
 -- below the first one there is none
 pub first_is : (marks : BTreeSet ℕ) (at k : ℕ) → IsLowerBound nat_cmp marks at → k < at → is_marked marks k ≡ false
-first_is marks at k least lt = not_so (is_marked marks k) (λ e. let le = not_greater at k (least k e) in omega arith)
+first_is marks at k least lt = false_from_ne_true (is_marked marks k) (λ e. let le = le_from_not_gt at k (least k e) in omega arith)
 
 -- ---- marks
 pub marked_on : (t : ℕ) (a b c : BTreeSet ℕ) → Marked t a b → Marked t b c → Marked t a c

@@ -1,22 +1,15 @@
 -- Terms that wait: one more, and one that waits no longer.
-use Rattle.std.proofs.Common.{◌≡◌, ℕ, ◌<◌, ◌+◌, inl, inr, Bool, true, false, nat_eq, ◌||◌, List, [], ◌∷◌, ◌++◌, refl, ◌∙◌, ap, arith, eq-eqb}
-use Rattle.std.proofs.lemmas.Bool.{cases_eq}
+use Rattle.std.proofs.Common.{◌≡◌, ℕ, ◌<◌, ◌+◌, inl, inr, true, false, nat_eq, ◌||◌, List, [], ◌∷◌, ◌++◌, ◌∙◌, ap, arith, eq-eqb}
+use Rattle.std.proofs.lemmas.Bool.{cases_eq, or_left, or_right}
 use Rattle.std.proofs.lemmas.List.Folds.{list_any-append}
 use Rattle.cs_cong.specs.Signatures.{has}
 
-or_first : (p q : Bool) → p ≡ true → (p || q) ≡ true
-or_first p q e = ap (λ b. b || q) e
-
-or_second : (p q : Bool) → q ≡ true → (p || q) ≡ true
-or_second true q e = refl
-or_second false q e = e
-
 -- one number more
 pub has_more : (ns : List ℕ) (n a : ℕ) → has ns a ≡ true → has (ns ++ n ∷ []) a ≡ true
-has_more ns n a h = list_any-append (nat_eq a) ns (n ∷ []) ∙ or_first (has ns a) (has (n ∷ []) a) h
+has_more ns n a h = list_any-append (nat_eq a) ns (n ∷ []) ∙ or_left (has ns a) (has (n ∷ []) a) h
 
 pub has_last : (ns : List ℕ) (n a : ℕ) → a ≡ n → has (ns ++ n ∷ []) a ≡ true
-has_last ns n a e = list_any-append (nat_eq a) ns (n ∷ []) ∙ or_second (has ns a) (has (n ∷ []) a) (ap (λ b. b || false) (eq-eqb _ _ e))
+has_last ns n a e = list_any-append (nat_eq a) ns (n ∷ []) ∙ or_right (has ns a) (has (n ∷ []) a) (ap (λ b. b || false) (eq-eqb _ _ e))
 
 -- the numbers below n
 pub numbers_more : (ns : List ℕ) (n : ℕ) → ((a : ℕ) → a < n → has ns a ≡ true) → (a : ℕ) → a < n + 1 → has (ns ++ n ∷ []) a ≡ true

@@ -1,9 +1,10 @@
 -- What is known of the terms that don't wait, as terms are looked at and classes are made one.
 use Rattle.std.proofs.Common.{◌≡◌, ℕ, zero, suc, ◌<◌, inl, inr, Bool, true, false, not, nat_eq, cond, ◌&&◌, ◌||◌, List, [], ◌∷◌, ◌++◌, length, slice_get, Some, refl, sym, ◌∙◌, ap, ap₂, subst, arith, add-one, eq-eqb, ne_eqb}
 use Rattle.std.specs.List.{list_any}
-use Rattle.std.proofs.lemmas.Bool.{cases_eq, and_parts}
+use Rattle.std.proofs.lemmas.Bool.{cases_eq, and_parts, not-true, or_parts}
 use Rattle.std.proofs.lemmas.List.{length-append}
 use Rattle.std.proofs.lemmas.List.Folds.{list_any-append}
+use Rattle.std.proofs.lemmas.Option.{same_Some}
 use Rattle.cs_index.specs.Under.{under, with_number}
 use Rattle.cs_cong.specs.declared.congruent.Applied.{Applied}
 use Rattle.cs_cong.specs.declared.merges.Merge.{Merge}
@@ -19,13 +20,8 @@ use Rattle.cs_cong.specs.Waits.{waits, IsDone}
 use Rattle.cs_cong.specs.Settled.{is_partner, has_partner, IsSettled, IsSpread}
 use Rattle.cs_cong.proofs.Grown.{flipped, congruent_within}
 use Rattle.cs_cong.proofs.Signatures.{same_key, alike_on}
-use Rattle.cs_cong.proofs.Used.{or_none, any_weaker, same_touches, still_one, alike_kept, key_kept, used_moved}
+use Rattle.cs_cong.proofs.Used.{any_weaker, same_touches, still_one, alike_kept, key_kept, used_moved}
 use Rattle.cs_cong.proofs.Stages.{last_one}
-use Rattle.cs_cong.proofs.Steps.{some_same}
-
-not_true : (b : Bool) → not b ≡ true → b ≡ false
-not_true true e = absurd (let f : false ≡ true = e in cc)
-not_true false e = refl
 
 -- ---- a term that is looked at
 -- congruent terms have one key
@@ -61,7 +57,7 @@ module _ (terms : List Applied) (f : ℕ → ℕ) (old new : Waiting) (a : ℕ) 
   still_partner : (n b : ℕ) → is_partner terms f old.queue n b ≡ true → is_partner terms f new.queue n b ≡ true
   still_partner n b e =
       let p = and_parts (not (waits old.queue n)) (are_congruent terms f n b) e in
-      ap₂ (λ x y. not x && y) (still_calm n (not_true (waits old.queue n) p.0)) p.1
+      ap₂ (λ x y. not x && y) (still_calm n (not-true (waits old.queue n) p.0)) p.1
 
   pub settled_done : new.uses.items ≡ old.uses.items → ((p : ℕ → Bool) (k : ℕ) → list_any p (under old.index k) ≡ true → list_any p (under new.index k) ≡ true) →
       has_partner terms f new.queue new.index a ≡ true → ((c : ℕ) → waits old.queue c ≡ false → are_congruent terms f a c ≡ true → f a ≡ f c) → IsSettled terms f new
@@ -94,7 +90,7 @@ module _ (terms : List Applied) (f : ℕ → ℕ) (old new : Waiting) (a : ℕ) 
       settled_done same (λ q k h. ap (λ i. list_any q (under i k)) index ∙ h)
       (ap (λ i. has_partner terms f new.queue i a) index
       ∙ any_weaker (λ m. is_partner terms f old.queue m a) (λ m. is_partner terms f new.queue m a) (λ m. still_partner m a) (under old.index (key_at terms f a)) has')
-      (λ c wc h. sym e ∙ s.closed n c (not_true (waits old.queue n) p.0) wc (linked terms f n a c p.1 h))
+      (λ c wc h. sym e ∙ s.closed n c (not-true (waits old.queue n) p.0) wc (linked terms f n a c p.1 h))
 
   -- it has none, and is entered
   pub settled_entered : new.uses.items ≡ old.uses.items → a < length terms → (key : ℕ) → key ≡ key_at terms f a → ((k : ℕ) → under new.index k ≡ with_number (nat_eq key k) (under old.index k) a) →
@@ -148,7 +144,7 @@ settled_spread terms f g from to apart moved old new s sp = record {
   where
     -- what doesn't wait has no part in the class that moved
     calm : (a : ℕ) → waits new.queue a ≡ false → (waits old.queue a ≡ false) × (touches f (slice_get terms a) from ≡ false)
-    calm a w = let p = or_none (waits old.queue a) (has (row old.uses.items from) a) (sym (sp.added.waiting a) ∙ w) in (p.0, sym (s.used from a) ∙ p.1)
+    calm a w = let p = or_parts (waits old.queue a) (has (row old.uses.items from) a) (sym (sp.added.waiting a) ∙ w) in (p.0, sym (s.used from a) ∙ p.1)
 
     kept : (a b : ℕ) → touches f (slice_get terms a) from ≡ false → touches f (slice_get terms b) from ≡ false → are_congruent terms g a b ≡ are_congruent terms f a b
     kept a b h i = alike_kept f g from to apart moved (slice_get terms a) (slice_get terms b) h i
@@ -157,7 +153,7 @@ settled_spread terms f g from to apart moved old new s sp = record {
     partner n a h e =
         let p = and_parts (not (waits old.queue n)) (are_congruent terms f n a) e in
         let far : touches f (slice_get terms n) from ≡ false = same_touches f from (slice_get terms n) (slice_get terms a) p.1 ∙ h in
-        let still : waits new.queue n ≡ false = sp.added.waiting n ∙ ap₂ (λ x y. x || y) (not_true (waits old.queue n) p.0) (s.used from n ∙ far) in
+        let still : waits new.queue n ≡ false = sp.added.waiting n ∙ ap₂ (λ x y. x || y) (not-true (waits old.queue n) p.0) (s.used from n ∙ far) in
         ap₂ (λ x y. not x && y) still (kept n a far h ∙ p.1)
 
 -- one merge, of the class of a
@@ -177,7 +173,7 @@ settled_turned terms log new a b why from to ea eb apart is old after sp s =
 
 -- what is known, where something is
 pub known_some : (terms : List Applied) (f : ℕ → ℕ) (v w : Waiting) → Some v ≡ Some w → IsSettled terms f v → IsSettled terms f w
-known_some terms f v w e s = subst (IsSettled terms f) (some_same v w e) s
+known_some terms f v w e s = subst (IsSettled terms f) (same_Some v w e) s
 
 -- where none waits
 calm : (q : Queue) (a : ℕ) → q.list.items ≡ [] → a < length q.flags.items → waits q a ≡ false

@@ -1,6 +1,7 @@
 -- Congruent terms have one key, and congruence is an equivalence.
-use Rattle.std.proofs.Common.{◌≡◌, ℕ, zero, suc, ◌<◌, true, false, nat_eq, ◌&&◌, List, [], ◌∷◌, length, get_or, slice_get, Option, Some, None, refl, sym, ◌∙◌, ap, ap₂, arith, eq-eqb}
+use Rattle.std.proofs.Common.{◌≡◌, ℕ, ◌<◌, true, false, nat_eq, ◌&&◌, List, [], ◌∷◌, length, get_or, Option, Some, None, sym, ◌∙◌, ap, ap₂, eq-eqb}
 use Rattle.std.proofs.lemmas.Bool.{eqb-true, and_parts}
+use Rattle.std.proofs.lemmas.Option.{slice_get-get_or}
 use Rattle.cs_index.specs.Keys.{mixed}
 use Rattle.cs_cong.specs.declared.congruent.Applied.{Applied}
 use Rattle.cs_cong.specs.Joined.{all_same, alike}
@@ -47,10 +48,6 @@ alike_on f (Some s) None u g h = absurd (let e : false ≡ true = g in cc)
 alike_on f (Some s) (Some t) None g h = absurd (let e : false ≡ true = h in cc)
 
 -- ---- terms by number
-pub get_some : {A : Type 0} (xs : List A) (n : ℕ) (d : A) → n < length xs → slice_get xs n ≡ Some (get_or xs n d)
-get_some [] n d lt = absurd (omega arith)
-get_some (x ∷ xs) zero d lt = refl
-get_some (x ∷ xs) (suc n) d lt = get_some xs n d (omega arith)
 
 pub key_read : (terms : List Applied) (f : ℕ → ℕ) (a : ℕ) (t : Applied) → a < length terms → t ≡ get_or terms a t → key_at terms f a ≡ signature_key f t
-key_read terms f a t lt e = ap (key_of f) (get_some terms a t lt) ∙ ap (signature_key f) (sym e)
+key_read terms f a t lt e = ap (key_of f) (slice_get-get_or terms a t lt) ∙ ap (signature_key f) (sym e)

@@ -1,6 +1,6 @@
 -- One claim more, and back to the first claims.
 use Rattle.std.proofs.Common.{◌≡◌, ℕ, zero, suc, ◌<◌, ◌≤◌, ◌+◌, inl, inr, Bool, true, false, nat_eq, cond, ◌&&◌, ◌||◌, List, [], ◌∷◌, ◌++◌, length, take, drop, get_or, slice_get, Option, Some, None, refl, sym, ◌∙◌, ap, ap₂, subst, arith, eq-eqb}
-use Rattle.std.proofs.lemmas.Bool.{cases_eq, cases_lt, eqb-true, and_parts}
+use Rattle.std.proofs.lemmas.Bool.{cases_eq, cases_lt, eqb-true, and_parts, or_right}
 use Rattle.std.proofs.lemmas.List.{get_or_append_left, get_or_at, get_or_past, get_or_default, get_or-take, length-append, length-take-le, take-append-le, take-append-drop, take_all, take-take, take_at}
 use Rattle.std.proofs.lemmas.Option.{slice_get_past}
 use Rattle.cs_cong.specs.declared.congruent.Applied.{Applied}
@@ -41,10 +41,6 @@ claimed_last claims c e =
     ap (λ o. says o c.left c.right) (get_last claims c)
     ∙ ap (λ b. b && (nat_eq c.left c.left && nat_eq c.right c.right)) e
     ∙ ap₂ (λ p q. p && q) (eq-eqb c.left c.left refl) (eq-eqb c.right c.right refl)
-
-pub or_right : (p q : Bool) → q ≡ true → (p || q) ≡ true
-or_right true q e = refl
-or_right false q e = e
 
 or_both : (p q r s : Bool) → (p ≡ true → r ≡ true) → (q ≡ true → s ≡ true) → (p || q) ≡ true → (r || s) ≡ true
 or_both true q r s f g e = ap (λ b. b || s) (f refl)

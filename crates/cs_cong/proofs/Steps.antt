@@ -4,6 +4,7 @@ use Rattle.std.specs.List.{Contains}
 use Rattle.std.proofs.lemmas.Bool.{cases_eq, cases_lt}
 use Rattle.std.proofs.lemmas.List.{take-append-le, take_all}
 use Rattle.std.proofs.lemmas.List.Elements.{Contains-append_left, Contains-push_cases}
+use Rattle.std.proofs.lemmas.Option.{same_Some}
 use Rattle.cs_cong.specs.declared.congruent.Applied.{Applied}
 use Rattle.cs_cong.specs.declared.congruent.Claim.{Claim}
 use Rattle.cs_cong.specs.declared.explain.Derived.{Derived}
@@ -43,9 +44,6 @@ named_more terms claims ns i a b steps e d = record {
   each = λ n s at. follows_more terms claims ns (ns ++ i ∷ []) (take n steps) (λ j. Contains-append_left ns (i ∷ []) j) s (d.each n s at);
 }
 
-pub some_same : {A : Type 0} (x y : A) → Some x ≡ Some y → x ≡ y
-some_same x y e = ap (λ o. elim o [ Some z ↦ z | None ↦ x ]) e
-
 -- one step more
 pub one_step : (terms : List Applied) (claims : List Claim) (named : List ℕ) (steps : List Derived) (d : Derived) →
     Follows terms claims named steps d → IsDerivation terms claims named steps → IsDerivation terms claims named (steps ++ d ∷ [])
@@ -57,7 +55,7 @@ one_step terms claims named steps d f is = record {
         (is.each n e (sym (get_front steps (d ∷ []) n lt) ∙ at))
     | inr le ↦ elim (cases_eq n (length steps)) [
       | inl same ↦
-          let here : d ≡ e = some_same d e (sym (get_last steps d) ∙ ap (slice_get (steps ++ d ∷ [])) (sym same) ∙ at) in
+          let here : d ≡ e = same_Some d e (sym (get_last steps d) ∙ ap (slice_get (steps ++ d ∷ [])) (sym same) ∙ at) in
           let front : steps ≡ take n (steps ++ d ∷ []) = sym (take_all n steps (omega arith)) ∙ sym (take-append-le n steps (d ∷ []) (omega arith)) in
           subst (λ l. Follows terms claims named l e) front (subst (Follows terms claims named steps) here f)
       | inr other ↦ absurd (let none : None ≡ Some e = sym (get_past steps d n (omega arith)) ∙ at in cc)

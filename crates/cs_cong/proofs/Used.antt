@@ -1,7 +1,7 @@
 -- Terms with a part in the class of a representative, as classes are made one.
 use Rattle.std.proofs.Common.{◌≡◌, ℕ, ◌<◌, ◌≤◌, ◌+◌, inl, inr, Bool, true, false, nat_eq, cond, ◌&&◌, ◌||◌, List, [], ◌∷◌, ◌++◌, length, take, get_or, slice_get, Option, Some, None, refl, sym, ◌∙◌, ap, ap₂, arith, eq-eqb, ne_eqb}
 use Rattle.std.specs.List.{list_any}
-use Rattle.std.proofs.lemmas.Bool.{cases_eq, cases_lt, eqb-true, and_parts}
+use Rattle.std.proofs.lemmas.Bool.{cases_eq, cases_lt, eqb-true, and_parts, or_parts}
 use Rattle.std.proofs.lemmas.List.{length-take-le, take_all, take_more}
 use Rattle.std.proofs.lemmas.List.Folds.{list_any-append}
 use Rattle.std.proofs.lemmas.Option.{slice_get_past}
@@ -17,10 +17,6 @@ use Rattle.cs_cong.proofs.Stages.{get_front, get_last, get_past}
 or_false : (p : Bool) → (p || false) ≡ p
 or_false true = refl
 or_false false = refl
-
-pub or_none : (p q : Bool) → (p || q) ≡ false → (p ≡ false) × (q ≡ false)
-or_none true q e = absurd (let f : true ≡ false = e in cc)
-or_none false q e = (refl, e)
 
 pub any_weaker : (p q : ℕ → Bool) → ((x : ℕ) → p x ≡ true → q x ≡ true) → (xs : List ℕ) → list_any p xs ≡ true → list_any q xs ≡ true
 any_weaker p q f [] e = absurd (let g : false ≡ true = e in cc)
@@ -84,8 +80,8 @@ module _ (f g : ℕ → ℕ) (from to : ℕ) (apart : from ≡ to → ⊥) (move
   parts_kept [] (y ∷ ys) h i = refl
   parts_kept (x ∷ xs) [] h i = refl
   parts_kept (x ∷ xs) (y ∷ ys) h i =
-      let p = or_none (nat_eq (f x) from) (is_any f xs from) h in
-      let q = or_none (nat_eq (f y) from) (is_any f ys from) i in
+      let p = or_parts (nat_eq (f x) from) (is_any f xs from) h in
+      let q = or_parts (nat_eq (f y) from) (is_any f ys from) i in
       ap (λ b. nat_eq (g x) (g y) && b) (parts_kept xs ys p.1 q.1) ∙ ap₂ (λ m n. nat_eq m n && all_same f xs ys) (stays x p.0) (stays y q.0)
 
   pub alike_kept : (s t : Option Applied) → touches f s from ≡ false → touches f t from ≡ false → alike g s t ≡ alike f s t
@@ -96,7 +92,7 @@ module _ (f g : ℕ → ℕ) (from to : ℕ) (apart : from ≡ to → ⊥) (move
   key_parts : (key : ℕ) (xs : List ℕ) → is_any f xs from ≡ false → with_parts key g xs ≡ with_parts key f xs
   key_parts key [] h = refl
   key_parts key (x ∷ xs) h =
-      let p = or_none (nat_eq (f x) from) (is_any f xs from) h in
+      let p = or_parts (nat_eq (f x) from) (is_any f xs from) h in
       key_parts (mixed key (g x)) xs p.1 ∙ ap (λ n. with_parts (mixed key n) f xs) (stays x p.0)
 
   pub key_kept : (o : Option Applied) → touches f o from ≡ false → key_of g o ≡ key_of f o

@@ -6,7 +6,7 @@ ghost use Rattle.cs_decide.specs.New.{AreUntrue, HasNewClause};
 use crate::check::Check;
 use crate::figures::Cases;
 use crate::signs::prefer;
-use cs_columns::Stop;
+use cs_sums::Stop;
 use cs_search::add::add;
 use cs_search::assignment::Assignment;
 use cs_search::examine::status;

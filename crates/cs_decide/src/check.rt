@@ -11,7 +11,7 @@ use crate::model::model_of;
 use cs_answer::{Answer, certified, evaluated};
 use cs_claims::claims::{Claim, Claims};
 use cs_claims::shortcuts::Shortcuts;
-use cs_columns::Stop;
+use cs_sums::Stop;
 use cs_meter::Meter;
 use cs_proof::Stack;
 use cs_record::assembly::assembled;

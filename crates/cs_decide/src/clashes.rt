@@ -3,7 +3,7 @@
 
 use crate::elements::Sources;
 use cs_claims::held::key_of_applied;
-use cs_columns::Stop;
+use cs_sums::Stop;
 use cs_index::{Index, mix, mix_wide};
 use cs_model::Element;
 use cs_record::numbered::Record;

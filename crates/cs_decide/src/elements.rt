@@ -2,7 +2,7 @@
 
 use crate::figures::Figures;
 use cs_claims::claims::{Claims, value_of};
-use cs_columns::Stop;
+use cs_sums::Stop;
 use cs_model::Element;
 use cs_record::atoms::Atoms;
 use cs_record::numbered::Record;

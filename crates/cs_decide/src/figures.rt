@@ -7,7 +7,7 @@ use crate::elements::Sources;
 use crate::products::{misread_factor, product_cases};
 use cs_claims::claims::{Claims, value_of};
 use cs_claims::farkas::refutation_of;
-use cs_columns::{Split, Stop};
+use cs_sums::{Split, Stop};
 use cs_meter::{Budget, Meter};
 use cs_record::atoms::Atoms;
 use cs_record::cases::{order, parted};

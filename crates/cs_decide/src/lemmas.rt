@@ -11,7 +11,7 @@ use crate::signs::prefer;
 use cs_answer::Answer;
 use cs_claims::claims::Claim;
 use cs_claims::lemma::lemma_of;
-use cs_columns::Stop;
+use cs_sums::Stop;
 use cs_meter::Meter;
 use cs_proof::Stack;
 use cs_record::draft::Lemma;

@@ -2,7 +2,7 @@
 
 use crate::elements::Sources;
 use cs_answer::is_nonlinear;
-use cs_columns::Stop;
+use cs_sums::Stop;
 use cs_model::{Model, evaluate};
 use std::alloc::Global;
 use vx_terms::Term;

@@ -1,7 +1,7 @@
 //! A model from the classes, the values of numbers and an assignment.
 
 use crate::elements::Sources;
-use cs_columns::Stop;
+use cs_sums::Stop;
 use cs_model::{Entry, Model};
 use cs_table::Head;
 use std::alloc::Global;

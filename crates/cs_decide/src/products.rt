@@ -4,7 +4,7 @@
 use crate::elements::Sources;
 use crate::figures::Cases;
 use cs_claims::claims::value_of;
-use cs_columns::Stop;
+use cs_sums::Stop;
 use cs_proof::Step;
 use cs_record::atoms::Atoms;
 use cs_record::cases::order;

@@ -1,6 +1,6 @@
 //! The signs with which atoms are decided first.
 
-use cs_columns::Stop;
+use cs_sums::Stop;
 use cs_index::mix;
 use cs_search::order::Order;
 

@@ -13,7 +13,7 @@ use crate::lemmas::{refuse, take_lemma};
 use crate::signs::{prefer, prefer_others};
 use cs_answer::Answer;
 use cs_claims::claims::Claim;
-use cs_columns::Stop;
+use cs_sums::Stop;
 use cs_meter::Meter;
 use cs_proof::Stack;
 use cs_record::clauses::search_of;

@@ -3,16 +3,17 @@ use Rattle.std.proofs.Common.{◌≡◌, ◌<◌, ◌^◌, ℕ, suc, Bool, true,
 use Rattle.std.specs.Prelude.{Ok, Err, if◌then◌else◌}
 use Rattle.std.specs.declared.result.Result.{Result}
 use Rattle.std.proofs.lemmas.List.{map-append, length-map}
+use Rattle.std.proofs.lemmas.Option.{same_Some}
 use Rattle.vx_smt_meaning.specs.Commands.{Declared}
 use Rattle.vx_terms.specs.Views.{term}
 use Rattle.cs_certificate.specs.Certificate.{Stack, State, start, Clause, NumberedLiteral, Step, NewTerm, Farkas, Propagate, Derives, Leads, stays, names, derives}
 use Rattle.cs_certificate.specs.Certificate as certificate
-use Rattle.cs_nodes.specs.Nodes.{Node}
-use Rattle.cs_nodes.specs.Steps.{◌>>=◌}
-use Rattle.cs_nodes.proofs.Chains.{bind_some}
-use Rattle.cs_hints.specs.declared.Literal.{Literal}
-use Rattle.cs_hints.specs.declared.Clause.{Clause as Clause'}
-use Rattle.cs_hints.specs.Hints.{refutes}
+use Rattle.cs_certificate.specs.Nodes.{Node}
+use Rattle.cs_certificate.specs.Steps.{◌>>=◌}
+use Rattle.cs_certificate.proofs.Chains.{bind_some}
+use Rattle.cs_certificate.specs.declared.literal.Literal.{Literal}
+use Rattle.cs_certificate.specs.declared.literal.Clause.{Clause as Clause'}
+use Rattle.cs_certificate.specs.Hints.{refutes}
 use Rattle.cs_farkas.specs.Sums.{Done, Misses}
 use Rattle.cs_farkas.specs.Sums as sums
 use Rattle.cs_proof.specs.Prepared.{Duty, Named, Derived, Missed, Sum, Hints, prepared, narrow_literals, within, turned, with_literals, if_all_bool, saturate, clause_by, derived, propagation}
@@ -28,9 +29,6 @@ use Rattle.cs_derivation.specs.View.{reached}
 use Rattle.cs_derivation.specs.declared.derivation.Derivation.{Derivation}
 use Rattle.cs_derivation.proofs.Plain.{taken_plain, plain_end}
 use Rattle.cs_derivation.proofs.Scenes.{Keeps, plans, scene, taken_whole, few_at}
-
-some_is : {A : Type 0} {x y : A} → Some x ≡ Some y → x ≡ y
-some_is e = cc
 
 only_is : {A : Type 0} {x y : A} → [] ++ x ∷ [] ≡ [] ++ y ∷ [] → x ≡ y
 only_is e = cc
@@ -58,7 +56,7 @@ derived_shown : (nodes : List Node) (o : Option (List NumberedLiteral)) (x : Dut
 derived_shown nodes o x e =
     let b = bind_some o (λ ns. with_literals Derived (within (length nodes) ns)) x e in
     let c = bind_some (within (length nodes) b.0) (λ ls. Some (Derived, ls)) x b.2 in
-    subst (λ y. IsShown y.0) (some_is c.2) tt
+    subst (λ y. IsShown y.0) (same_Some _ _ c.2) tt
 
 if_some : (b : Bool) {A : Type 0} (o : Option A) (x : A) → (if b then o else None) ≡ Some x → o ≡ Some x
 if_some true o x e = e
@@ -69,7 +67,7 @@ hints_shown nodes ls hs x e =
     let b = bind_some (narrow_literals ls) (λ ns. if_all_bool nodes ns (within (length nodes) (map turned ns) >>= λ assumed. with_literals (Hints assumed (map saturate hs)) (within (length nodes) ns))) x e in
     let c = bind_some (within (length nodes) (map turned b.0)) (λ assumed. with_literals (Hints assumed (map saturate hs)) (within (length nodes) b.0)) x (if_some _ _ x b.2) in
     let d = bind_some (within (length nodes) b.0) (λ ls. Some (Hints c.0 (map saturate hs), ls)) x c.2 in
-    subst (λ y. IsShown y.0) (some_is {x = (Hints c.0 (map saturate hs), d.0)} d.2) tt
+    subst (λ y. IsShown y.0) (same_Some (Hints c.0 (map saturate hs), d.0) _ d.2) tt
 
 prepared_shown : (nodes : List Node) (roots : List ℕ) (step : Step) → IsTaken step → (x : Duty × List Literal) → prepared nodes roots step ≡ Some x → IsShown x.0
 prepared_shown nodes roots (NewTerm t) h x e = absurd h
@@ -98,7 +96,7 @@ module _ (stack : Stack) (clauses : List Clause') (r : Reached) (k : Keeps claus
     fate = fate_of stack r.roots r.nodes clauses (plans r) (scene stack clauses r k h) (Some step) (kept (plans r) (prepared r.nodes r.roots step)) (planned_is stack.symbols r.roots r step t)
 
     none_over : (o : sums.Over) → IsOver (state_of r) (Some step) o → ⊥
-    none_over o w = let f : step ≡ Farkas w.0 w.1 = some_is w.2 in subst IsTaken f t
+    none_over o w = let f : step ≡ Farkas w.0 w.1 = same_Some _ _ w.2 in subst IsTaken f t
 
     -- a duty that isn't met
     refused : (q : Plans) (d : Duty) → q.duties ≡ [] ++ d ∷ [] → met r.nodes clauses (length r.clauses) d ≡ Misses → Fate stack r.roots r.nodes clauses (plans r) (Some step) q → (c : Clause) → Derives stack (state_of r) step c → ⊥
@@ -139,7 +137,7 @@ module _ (stack : Stack) (clauses : List Clause') (r : Reached) (k : Keeps claus
 
       accepted : Fate stack r.roots r.nodes clauses (plans r) (Some step) (with_clause (plans r) x) → IsDerived stack step r (with_step r (Some step) x.1) n
       accepted (moves d e m meets only over stands) =
-          let l = led_to stack (state_of r) (checked.state_of (with_clause (plans r) x)) step (has_clause step t) (subst (λ y. Leads stack (state_of r) (y ∷ []) (checked.state_of (with_clause (plans r) x))) (sym (some_is meets.1)) meets.2) in
+          let l = led_to stack (state_of r) (checked.state_of (with_clause (plans r) x)) step (has_clause step t) (subst (λ y. Leads stack (state_of r) (y ∷ []) (checked.state_of (with_clause (plans r) x))) (sym (same_Some _ _ meets.1)) meets.2) in
           by_clause stands l.0 l.1 l.2
       accepted (misses d e m never over) =
           let same : d ≡ x.0 = only_is (sym e) in
@@ -151,7 +149,7 @@ module _ (stack : Stack) (clauses : List Clause') (r : Reached) (k : Keeps claus
     one_derived q n last (Some x) e g = go (shows clauses x.0) refl e
       where
         go : (b : Bool) → shows clauses x.0 ≡ b → (if b then Some (with_step r (Some step) x.1) else None) ≡ Some q → IsDerived stack step r q n
-        go true s e = subst (λ y. IsDerived stack step r y n) (some_is e) (accepted x n last s g)
+        go true s e = subst (λ y. IsDerived stack step r y n) (same_Some _ _ e) (accepted x n last s g)
         go false s e = cc
 
     pub added : {E : Type 0} (q : Reached) (result : Result (Option ℕ) E) → Takes (taken clauses r (Some step)) r q result → Adds stack step r q result

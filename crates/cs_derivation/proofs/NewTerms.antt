@@ -1,13 +1,14 @@
 -- A derivation with a `term` step more.
 use Rattle.std.proofs.Common.{◌≡◌, ℕ, List, [], ◌∷◌, ◌++◌, Some, length, drop, sym, ◌∙◌, ap, ap₂, subst}
 use Rattle.std.proofs.lemmas.List.{map-append}
+use Rattle.std.proofs.lemmas.Option.{same_Some}
 use Rattle.vx_terms.specs.Sorts.{Sort}
 use Rattle.vx_terms.specs.Terms.{Term}
 use Rattle.cs_certificate.specs.Terms.{HasSort, subterms}
 use Rattle.cs_certificate.specs.Certificate.{Stack, State, start, Step, NewTerm, AreLive, Leads, stays, names, derives}
 use Rattle.cs_certificate.specs.Certificate as certificate
-use Rattle.cs_nodes.specs.Nodes.{Node}
-use Rattle.cs_nodes.proofs.Chains.{bind_some}
+use Rattle.cs_certificate.specs.Nodes.{Node}
+use Rattle.cs_certificate.proofs.Chains.{bind_some}
 use Rattle.cs_numbers.specs.Numbering.{place, nodes_of, nodes_after, added}
 use Rattle.cs_numbers.specs.Laws.{IsSorted}
 use Rattle.cs_proof.specs.Prepared.{Named}
@@ -19,9 +20,6 @@ use Rattle.cs_derivation.specs.Reached.{Reached, Stands, state_of, IsNamed}
 use Rattle.cs_derivation.proofs.Plain.{plain_end}
 use Rattle.cs_derivation.proofs.Scenes.{plans, stood}
 use Rattle.cs_derivation.proofs.Starting.{place_at}
-
-some_is : {A : Type 0} {x y : A} → Some x ≡ Some y → x ≡ y
-some_is e = cc
 
 leads_named : (stack : Stack) {s u : State} {steps : List Step} (t : Term) (sort : Sort) → HasSort t sort → AreLive stack t → Leads stack s steps u → Leads stack s (steps ++ NewTerm t ∷ []) (certificate.with_term u t)
 leads_named stack t sort h l stays = names h l stays
@@ -38,7 +36,7 @@ module _ (stack : Stack) (r : Reached) (h : Stands stack r) (t : Term) (sorted :
       record {
         fresh = b.0;
         are = subst (λ l. nodes_of l (drop (length r.nodes) l) ≡ Some b.0) terms b.1;
-        whole = ap₂ (λ l m. record { terms = l; nodes = m; duties = Named ∷ []; clauses = r.clauses }) terms (sym (some_is b.2));
+        whole = ap₂ (λ l m. record { terms = l; nodes = m; duties = Named ∷ []; clauses = r.clauses }) terms (sym (same_Some _ _ b.2));
       }
 
   pub is_named : (ws : List _) (n : ℕ) → ws ≡ r.steps ++ Some (NewTerm t) ∷ [] → place ts t ≡ Some n → IsNamed stack t r record { terms = ts; nodes = ns; roots = r.roots; clauses = r.clauses; steps = ws } n

@@ -1,5 +1,6 @@
 -- Writable steps none of which is a `farkas` step: the checker finishes them where they lead to an empty clause.
 use Rattle.std.proofs.Common.{◌≡◌, List, [], ◌∷◌, ◌++◌, Some, map, refl, sym, subst}
+use Rattle.std.proofs.lemmas.Option.{same_Some}
 use Rattle.vx_terms.specs.Interpretations.{Each}
 use Rattle.cs_certificate.specs.Certificate.{Stack, State, start, Step, NewTerm, Farkas, Leads, stays, names, derives}
 use Rattle.cs_farkas.specs.Sums as sums
@@ -8,9 +9,6 @@ use Rattle.cs_writable.specs.Writable.{IsWritable, AreWritable}
 use Rattle.cs_derivation.specs.Finish.{Finishes}
 use Rattle.cs_derivation.specs.Reached.{IsPlain, state_of}
 use Rattle.cs_derivation.specs.Taken.{IsTaken}
-
-some_is : {A : Type 0} {x y : A} → Some x ≡ Some y → x ≡ y
-some_is e = cc
 
 -- a step that is taken is plain
 pub taken_plain : (step : Step) → IsTaken step → IsPlain step
@@ -25,7 +23,7 @@ plain_end (x ∷ xs) step h s = (h.0, plain_end xs step h.1 s)
 
 -- no fraction of such a step leaves 128 bits
 none_over : (s : State) (step : Step) → IsPlain step → (o : sums.Over) → IsOver s (Some step) o → ⊥
-none_over s step h o w = let f : step ≡ Farkas w.0 w.1 = some_is w.2 in subst IsPlain f h
+none_over s step h o w = let f : step ≡ Farkas w.0 w.1 = same_Some _ _ w.2 in subst IsPlain f h
 
 -- such steps hold where they lead
 hold : (stack : Stack) {s u : State} {steps : List Step} → Leads stack s steps u → Each IsPlain steps → Holds stack s (map Some steps) u

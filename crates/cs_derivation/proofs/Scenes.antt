@@ -1,30 +1,27 @@
 -- What the checker's laws ask of a derivation.
 use Rattle.std.proofs.Common.{◌≡◌, ℕ, zero, suc, ◌<◌, ◌^◌, true, List, [], ◌∷◌, Some, map, length, take, refl, sym, ◌∙◌, ap, subst, arith}
 use Rattle.std.proofs.lemmas.List.{length-map}
-use Rattle.std.proofs.lemmas.Option.{slice_get-get_or}
+use Rattle.std.proofs.lemmas.Option.{slice_get-get_or, same_Some}
 use Rattle.std.specs.List.{All}
 use Rattle.vx_terms.specs.Terms.{Term, Truth}
 use Rattle.vx_terms.specs.Interpretations.{Each}
 use Rattle.cs_certificate.specs.Certificate.{Stack, State, AllAt, no-terms, one-term, Contains}
-use Rattle.cs_nodes.specs.Nodes.{Node, Represents}
-use Rattle.cs_nodes.specs.Steps.{ComputesSteps}
-use Rattle.cs_nodes.proofs.Chains.{chain_computes, congruence_computes}
-use Rattle.cs_nodes.proofs.Comparisons.{split_computes, trichotomy_computes}
-use Rattle.cs_nodes.proofs.Picks.{pick_computes}
-use Rattle.cs_nodes.proofs.Divisions.{divide_computes}
-use Rattle.cs_nodes.proofs.Definitions.{define_computes}
+use Rattle.cs_certificate.specs.Nodes.{Node, Represents}
+use Rattle.cs_certificate.specs.Steps.{ComputesSteps}
+use Rattle.cs_certificate.proofs.Chains.{chain_computes, congruence_computes}
+use Rattle.cs_certificate.proofs.Comparisons.{split_computes, trichotomy_computes}
+use Rattle.cs_certificate.proofs.Picks.{pick_computes}
+use Rattle.cs_certificate.proofs.Divisions.{divide_computes}
+use Rattle.cs_certificate.proofs.Definitions.{define_computes}
 use Rattle.cs_numbers.specs.Parts.{HasFewParts}
-use Rattle.cs_hints.specs.declared.Literal.{Literal}
-use Rattle.cs_hints.specs.declared.Clause.{Clause as Clause'}
-use Rattle.cs_hints.specs.Bridge.{term_at, views, state, IsNumbered, AreDistinct}
+use Rattle.cs_certificate.specs.declared.literal.Literal.{Literal}
+use Rattle.cs_certificate.specs.declared.literal.Clause.{Clause as Clause'}
+use Rattle.cs_certificate.specs.Bridge.{term_at, views, state, IsNumbered, AreDistinct}
 use Rattle.cs_proof.specs.Plans.{Plans}
 use Rattle.cs_proof.proofs.Answered.{Scene}
 use Rattle.cs_proof.proofs.State.{represents}
 use Rattle.cs_proof.proofs.State as checked
 use Rattle.cs_derivation.specs.Reached.{Reached, Stands, state_of}
-
-some_is : {A : Type 0} {x y : A} → Some x ≡ Some y → x ≡ y
-some_is e = cc
 
 -- the literals of clauses
 abbrev pub literals : List Clause' → List (List Literal)
@@ -48,7 +45,7 @@ as_many_roots (one-term at more) = ap suc (as_many_roots more)
 
 pub few_at : {X : Type 0} (view : X → Term) (xs : List X) (t : Term) → All (λ x. HasFewParts (view x)) xs → Contains (map view xs) t → HasFewParts t
 few_at view [] t h (n, e) = cc
-few_at view (x ∷ xs) t h (zero, e) = subst HasFewParts (some_is e) (h 0 x (omega arith))
+few_at view (x ∷ xs) t h (zero, e) = subst HasFewParts (same_Some _ _ e) (h 0 x (omega arith))
 few_at view (x ∷ xs) t h (suc n, e) = few_at view xs t (λ k d lt. h (suc k) d (omega arith)) (n, e)
 
 by_numbers : (nodes : List Node) (s : State) (stack : Stack) → Represents nodes s.terms → ComputesSteps nodes s stack

@@ -4,12 +4,12 @@ use Rattle.std.specs.declared.result.Result.{Result}
 use Rattle.vx_terms.specs.Terms.{Term}
 use Rattle.vx_terms.specs.Interpretations.{Each}
 use Rattle.cs_certificate.specs.Certificate.{Stack, State, start, with_clause, with_term, Clause, Step, NewTerm, Farkas, At, AllAt, Derives, Leads}
-use Rattle.cs_nodes.specs.Nodes.{Node}
+use Rattle.cs_certificate.specs.Nodes.{Node}
 use Rattle.cs_numbers.specs.Numbering.{nodes_of}
 use Rattle.cs_numbers.specs.Laws.{IsTable}
 use Rattle.cs_writable.specs.Writable.{IsWritable}
-use Rattle.cs_hints.specs.declared.Literal.{Literal}
-use Rattle.cs_hints.specs.Bridge.{views, IsNumbered}
+use Rattle.cs_certificate.specs.declared.literal.Literal.{Literal}
+use Rattle.cs_certificate.specs.Bridge.{views, IsNumbered}
 
 -- the numbered terms with their nodes, the numbers of the assertions, the clauses, and the steps as they are written
 pub record Reached : Type 0 where

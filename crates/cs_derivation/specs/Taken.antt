@@ -4,9 +4,9 @@ use Rattle.std.specs.declared.result.Result.{Result}
 use Rattle.cs_certificate.specs.Certificate.{Step, NewTerm, Farkas, NumberedLiteral}
 use Rattle.cs_table.specs.Gives.{sign_of}
 use Rattle.cs_writable.specs.Writable.{IsWritable}
-use Rattle.cs_hints.specs.declared.Literal.{Literal}
-use Rattle.cs_hints.specs.declared.Clause.{Clause}
-use Rattle.cs_hints.specs.Hints.{refutes}
+use Rattle.cs_certificate.specs.declared.literal.Literal.{Literal}
+use Rattle.cs_certificate.specs.declared.literal.Clause.{Clause}
+use Rattle.cs_certificate.specs.Hints.{refutes}
 use Rattle.cs_proof.specs.Prepared.{Duty, Derived, Hints, prepared_of}
 use Rattle.cs_derivation.specs.Reached.{Reached}
 

@@ -1,9 +1,9 @@
 //! The steps so far, and what they lead to.
 ghost use Rattle.std.specs.Prelude.{◌≡◌, ◌+◌, ◌<◌, ◌≤◌, ◌^◌, length, All};
-ghost use Rattle.cs_hints.specs.Marks.{terms_in, rounds_in};
+ghost use Rattle.cs_certificate.specs.Marks.{terms_in, rounds_in};
 ghost use Rattle.cs_proof.specs.Views.{IsFitClause};
 
-use cs_hints::{Clause, Marks};
+use cs_certificate::{Clause, Marks};
 use cs_numbers::NumberedTerms;
 use cs_proof::Step;
 use cs_table::Table;
@@ -24,6 +24,6 @@ pub struct Derivation {
     ghost few_roots: { length roots.items < 2 ^ 32 },
     ghost few_clauses: { length clauses.items < 2 ^ 32 },
     ghost fit_clauses: { All (IsFitClause (length nodes.nodes.items)) clauses.items },
-    ghost same_terms: { Rattle.cs_hints.specs.Marks.terms_in marks ≡ length nodes.nodes.items },
+    ghost same_terms: { Rattle.cs_certificate.specs.Marks.terms_in marks ≡ length nodes.nodes.items },
     ghost rounds: { rounds_in marks ≤ tries + 1 },
 }

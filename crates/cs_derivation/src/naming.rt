@@ -7,7 +7,7 @@ ghost use Rattle.cs_proof.specs.Views.{written};
 ghost use Rattle.cs_writable.specs.Writable.{IsWritableTerm};
 
 use crate::Derivation;
-use cs_hints::Marks;
+use cs_certificate::Marks;
 use cs_numbers::{add, extend, place_of};
 use cs_proof::{Step, Want};
 use cs_table::Stop;

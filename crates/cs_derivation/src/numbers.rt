@@ -5,7 +5,7 @@ ghost use Rattle.cs_proof.specs.Views as written;
 ghost use Rattle.cs_writable.specs.Writable.{IsSmallLiteral};
 ghost use Rattle.cs_derivation.specs.Taken.{numbered};
 
-use cs_hints::Literal;
+use cs_certificate::Literal;
 use std::alloc::{AllocError, Global};
 
 /// Numbers, as a step is written with them.

@@ -2,7 +2,7 @@
 ghost use Rattle.std.specs.Prelude.{◌≡◌};
 
 use crate::Derivation;
-use cs_hints::Clause;
+use cs_certificate::Clause;
 use cs_numbers::NumberedTerms;
 use cs_proof::Step;
 use cs_table::Table;

@@ -11,7 +11,7 @@ ghost use Rattle.cs_table.specs.Gives.{Gives};
 ghost use Rattle.cs_table.specs.Table.{nodes_in};
 
 use crate::Derivation;
-use cs_hints::Marks;
+use cs_certificate::Marks;
 use cs_numbers::{NumberedTerms, extend, number, place_of};
 use cs_proof::Want;
 use cs_table::{Stop, Table};

@@ -11,7 +11,7 @@ ghost use Rattle.cs_derivation.specs.View.{reached};
 
 use crate::Derivation;
 use crate::numbers::{all_written, widened};
-use cs_hints::{Clause, Literal, refutes_by};
+use cs_certificate::{Clause, Literal, refutes_by};
 use cs_proof::{Duty, Step, Want, prepared};
 use cs_table::Stop;
 use std::alloc::Global;

@@ -13,9 +13,10 @@ use Rattle.vx_terms.proofs.Values.{bool_same, fraction_same}
 use Rattle.cs_certificate.specs.Certificate.{At, Contains}
 use Rattle.cs_certificate.specs.Linear.{Multiple, Column, Total, add_column, add_part}
 use Rattle.cs_certificate.proofs.Fractions.{Eq, eq_refl, eq_trans, sum_eq, product_eq}
-use Rattle.cs_nodes.proofs.Heads.{sort_same}
+use Rattle.cs_certificate.proofs.Heads.{sort_same}
 use Rattle.std.proofs.Common.{eq-eqb, eqb, ◌⊎◌, inl, inr}
 use Rattle.std.proofs.lemmas.Bool.Decides.{eqb_tells}
+use Rattle.std.proofs.lemmas.Bool.{and_from}
 use Rattle.cs_farkas.specs.Sums.{Over, Outcome, Done, Leaves, Misses, ◌>>=◌, times, plus, Sums, add_constant}
 use Rattle.cs_farkas.specs.Sums as by_number
 
@@ -48,14 +49,9 @@ plus_fine a b = go (sum_fits a b) record { call = Add; left = a; right = b }
     go true o = lowest_eq (sum a b)
     go false o = tt
 
--- a term is itself
-and_true : (a b : Bool) → a ≡ true → b ≡ true → (a && b) ≡ true
-and_true true b e f = f
-and_true false b e f = e
-
 text_same : (x : List ℕ) → same_text x x ≡ true
 text_same [] = refl
-text_same (a ∷ x) = and_true _ _ (eq-eqb a a refl) (text_same x)
+text_same (a ∷ x) = and_from _ _ (eq-eqb a a refl) (text_same x)
 
 symbol_same : (f : Symbol) → same_symbol f f ≡ true
 symbol_same (Standard n) = eq-eqb n n refl
@@ -68,17 +64,17 @@ mutual
   term_same (Truth b) = bool_same b
   term_same (Number z) = int_same z
   term_same (Part a) = fraction_same a
-  term_same (Constant f a) = and_true _ _ (symbol_same f) (sort_same a)
-  term_same (Apply f a ts) = and_true _ _ (symbol_same f) (and_true _ _ (sort_same a) (terms_same ts))
+  term_same (Constant f a) = and_from _ _ (symbol_same f) (sort_same a)
+  term_same (Apply f a ts) = and_from _ _ (symbol_same f) (and_from _ _ (sort_same a) (terms_same ts))
   term_same (Not t) = term_same t
-  term_same (Binary o t u) = and_true _ _ (eq-eqb (operator_number o) (operator_number o) refl) (and_true _ _ (term_same t) (term_same u))
-  term_same (Ite c t u) = and_true _ _ (term_same c) (and_true _ _ (term_same t) (term_same u))
+  term_same (Binary o t u) = and_from _ _ (eq-eqb (operator_number o) (operator_number o) refl) (and_from _ _ (term_same t) (term_same u))
+  term_same (Ite c t u) = and_from _ _ (term_same c) (and_from _ _ (term_same t) (term_same u))
   term_same (AllOf ts) = terms_same ts
   term_same (SomeOf ts) = terms_same ts
 
   terms_same : (ts : Terms) → same_all ts ts ≡ true
   terms_same NoTerms = refl
-  terms_same (MoreTerms t ts) = and_true _ _ (term_same t) (terms_same ts)
+  terms_same (MoreTerms t ts) = and_from _ _ (term_same t) (terms_same ts)
 
 pub other_term : (t u : Term) → (t ≡ u → ⊥) → same t u ≡ false
 other_term t u h = go (same t u) refl

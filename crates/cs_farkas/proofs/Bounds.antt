@@ -1,24 +1,18 @@
 -- The constraints of a `farkas` step by number are its rows by term.
 use Rattle.std.proofs.Common.{◌≡◌, ℕ, pos, Bool, true, false, ◌&&◌, List, [], ◌∷◌, Option, Some, None, refl, sym, ◌∙◌, ap, subst}
 use Rattle.std.specs.Prelude.{slice_get}
+use Rattle.std.proofs.lemmas.Option.{same_Some}
 use Rattle.vx_terms.specs.Sorts.{BoolSort, Operator, And, Or, Implies, Equal, Less, LessEqual, Add, Subtract, Multiply, Div, Mod}
 use Rattle.vx_terms.specs.Terms.{Term, Truth, Number, Part, Constant, Apply, Not, Binary, Ite, AllOf, SomeOf, sort_of}
 use Rattle.vx_terms.proofs.Values.{sort_of_formed}
 use Rattle.cs_certificate.specs.Terms.{Head, TruthHead, NumberHead, PartHead, ConstantHead, ApplyHead, BinaryHead, NotHead, IteHead, AllHead, SomeHead, head, parts, equal, HasSort}
 use Rattle.cs_certificate.specs.Certificate.{At, AllAt, no-terms, one-term, Literal, Yes, No, Clause, Sign, Plain, Negated, NumberedLiteral, State, Reads, reads-plain, reads-negated, Constrains, not-less, not-at-most, less, at-most, equals}
 use Rattle.cs_certificate.specs.Linear.{Relation, AtMostZero, BelowZero, IsZero, Constraint}
-use Rattle.cs_nodes.specs.Nodes.{Node, Represents}
-use Rattle.cs_nodes.specs.Steps.{Names, names-yes, names-no}
-use Rattle.cs_nodes.proofs.Find.{one_at}
+use Rattle.cs_certificate.specs.Nodes.{Node, Represents}
+use Rattle.cs_certificate.specs.Steps.{Names, names-yes, names-no}
+use Rattle.cs_certificate.proofs.Find.{one_at}
 use Rattle.cs_farkas.specs.Rows.{Bound, bound, comparison, of_sides, bound_at}
 use Rattle.cs_farkas.proofs.Linears.{head_at}
-
-some_is : {A : Type 0} {x y : A} → Some x ≡ Some y → x ≡ y
-some_is e = cc
-
-and_true : (a b : Bool) → a ≡ true → b ≡ true → (a && b) ≡ true
-and_true true b e f = f
-and_true false b e f = e
 
 -- a literal of a comparison, by number and by term
 pub record Compared (s : State) (l : NumberedLiteral) (b : Bound) : Type 0 where
@@ -47,19 +41,19 @@ module _ (nodes : List Node) (s : State) (r : Represents nodes s.terms) where
   -- ---- from numbers to terms
   compared : (sign : Sign) (k : ℕ) (o : Operator) (t u : Term) (i j : ℕ) (b : Bound) → At s.terms k (Binary o t u) → At s.terms i t → At s.terms j u → comparison sign (BinaryHead o) i j ≡ Some b → Compared s record { sign = sign; number = k } b
   compared Plain k Less t u i j b at p q e =
-      let is = some_is e in
+      let is = same_Some _ _ e in
       subst (Compared s record { sign = Plain; number = k }) is record { literal = Yes (Binary Less t u); left = u; right = t; its_left = q; its_right = p; is_read = reads-plain at (bool_at k (Binary Less t u) at refl); constrains = not-less t u }
   compared Plain k LessEqual t u i j b at p q e =
-      let is = some_is e in
+      let is = same_Some _ _ e in
       subst (Compared s record { sign = Plain; number = k }) is record { literal = Yes (Binary LessEqual t u); left = u; right = t; its_left = q; its_right = p; is_read = reads-plain at (bool_at k (Binary LessEqual t u) at refl); constrains = not-at-most t u }
   compared Negated k Less t u i j b at p q e =
-      let is = some_is e in
+      let is = same_Some _ _ e in
       subst (Compared s record { sign = Negated; number = k }) is record { literal = No (Binary Less t u); left = t; right = u; its_left = p; its_right = q; is_read = reads-negated at (bool_at k (Binary Less t u) at refl); constrains = less t u }
   compared Negated k LessEqual t u i j b at p q e =
-      let is = some_is e in
+      let is = same_Some _ _ e in
       subst (Compared s record { sign = Negated; number = k }) is record { literal = No (Binary LessEqual t u); left = t; right = u; its_left = p; its_right = q; is_read = reads-negated at (bool_at k (Binary LessEqual t u) at refl); constrains = at-most t u }
   compared Negated k Equal t u i j b at p q e =
-      let is = some_is e in
+      let is = same_Some _ _ e in
       subst (Compared s record { sign = Negated; number = k }) is record { literal = No (equal t u); left = t; right = u; its_left = p; its_right = q; is_read = reads-negated at (bool_at k (equal t u) at refl); constrains = equals t u }
   compared Plain k And t u i j b at p q e = cc
   compared Plain k Or t u i j b at p q e = cc

@@ -3,13 +3,14 @@ use Rattle.std.proofs.Common.{◌≡◌, ℕ, zero, suc, ◌+◌, ◌-◌, ◌*�
 use Rattle.std.specs.Prelude.{nat_eq, replicate, IsTrue, unsigned_abs}
 use Rattle.std.specs.List.{list_all}
 use Rattle.std.specs.Ordering.{int_eq}
+use Rattle.std.proofs.lemmas.Bool.{and_parts}
 use Rattle.vx_frac.specs.declared.Frac.{Frac}
 use Rattle.vx_frac.specs.Fraction.{fraction}
 use Rattle.vx_frac.specs.Fractions.{none, lowest, same_fraction}
 use Rattle.vx_frac.proofs.Lowest.{lowest-same}
 use Rattle.vx_frac.proofs.Reduced.{lowest_fraction}
 use Rattle.vx_frac.proofs.Sums.{equal_ints}
-use Rattle.vx_terms.proofs.Same.{int_is, and_parts}
+use Rattle.vx_terms.proofs.Same.{int_is}
 use Rattle.cs_farkas.specs.Columns.{others_in}
 use Rattle.cs_farkas.specs.Rows.{is_zero}
 

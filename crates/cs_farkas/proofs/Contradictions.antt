@@ -4,19 +4,21 @@ use Rattle.std.specs.Prelude.{slice_get, slice_index_or, replicate, int_lt}
 use Rattle.std.specs.List.{list_all, list_any}
 use Rattle.std.proofs.lemmas.Int.{ints}
 use Rattle.std.proofs.lemmas.List.{length-replicate}
+use Rattle.std.proofs.lemmas.Option.{same_Some}
+use Rattle.std.proofs.lemmas.Bool.{and_parts}
 use borrow.Author.Differences.{up, down, lt-true, lt_in}
 use Rattle.vx_frac.specs.Fractions.{Fraction, none, full, whole}
 use Rattle.vx_frac.proofs.Sums.{equal_ints}
 use Rattle.vx_terms.specs.Sorts.{Sort, IntSort, BoolSort, RealSort, RefSort, SnapSort, OtherSort, same_sort}
 use Rattle.vx_terms.specs.Terms.{Term, same}
 use Rattle.vx_terms.specs.Interpretations.{Each}
-use Rattle.vx_terms.proofs.Same.{int_is, sort_is, and_parts}
+use Rattle.vx_terms.proofs.Same.{int_is, sort_is}
 use Rattle.cs_certificate.specs.Certificate.{At, Contains, IsStrict, IsContradiction}
 use Rattle.cs_certificate.specs.Linear.{minus_one, Relation, AtMostZero, BelowZero, IsZero, Multiple, Row, Column, Total, linear, read, add_rows, add_parts, combination}
 use Rattle.cs_certificate.specs.Linear as linear
 use Rattle.cs_certificate.proofs.Fractions.{Eq, eq_refl}
 use Rattle.cs_certificate.proofs.Numbers.{from_T}
-use Rattle.cs_nodes.specs.Nodes.{Node, Represents}
+use Rattle.cs_certificate.specs.Nodes.{Node, Represents}
 use Rattle.cs_farkas.specs.Sums.{Sums, read_term}
 use Rattle.cs_farkas.specs.Rows.{bound, Part, add_part, add_all, one_more, cleared, is_zero, is_above, is_below, is_strict, contradicts}
 use Rattle.cs_farkas.proofs.Amounts.{Fine, fine_then, Agrees, constant_fine, amount_of, by_term, Unique, term_same}
@@ -199,12 +201,9 @@ has_strict terms a _ _ (one_stands {i = i} {j = j} {t = t} {u = u} {g = g} {m = 
 pub strict_has : (terms : List Term) (a : Sort) (ps : List Part) (rs : List Row) → StandBy terms ps rs → (r : Row) (n : ℕ) → At rs n r → IsStrict a r → list_any (is_strict a) ps ≡ true
 strict_has terms a _ _ none_stand r n at h = cc
 strict_has terms a _ _ (one_stands {i = i} {j = j} {t = t} {u = u} {g = g} {m = m} {ps = ps} {rs = rs} p w more) r zero at h =
-    let is : record { multiplier = m; constraint = record { left = t; right = u; relation = g } } ≡ r = some_is at in
+    let is : record { multiplier = m; constraint = record { left = t; right = u; relation = g } } ≡ r = same_Some _ _ at in
     let here : is_strict a record { bound = bound i j g; multiplier = m } ≡ true = strict_from a m g i j h.0 (ap (λ x. x.constraint.relation) is ∙ h.1) (ap (λ x. int_lt (pos 0) x.multiplier.numerator) is ∙ h.2) in
     ap (λ b. b || list_any (is_strict a) ps) here
-  where
-    some_is : {A : Type 0} {x y : A} → Some x ≡ Some y → x ≡ y
-    some_is e = cc
 strict_has terms a _ _ (one_stands {i = i} {j = j} {g = g} {m = m} {ps = ps} {rs = rs} p w more) r (suc n) at h =
     or_right (is_strict a record { bound = bound i j g; multiplier = m }) _ (strict_has terms a ps rs more r n at h)
   where

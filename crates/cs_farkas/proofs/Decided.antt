@@ -2,23 +2,19 @@
 use Rattle.std.proofs.Common.{◌≡◌, ℕ, zero, suc, ◌<◌, ◌≤◌, pos, Bool, true, false, ◌&&◌, List, [], ◌∷◌, length, Option, Some, None, ◌⊎◌, inl, inr, refl, ◌∙◌, ap, subst, arith}
 use Rattle.std.specs.Prelude.{if◌then◌else◌}
 use Rattle.std.specs.List.{list_all}
+use Rattle.std.proofs.lemmas.Bool.{and_from, and_parts}
 use Rattle.vx_frac.specs.Fractions.{Fraction, whole}
 use Rattle.vx_terms.specs.Sorts.{Sort}
 use Rattle.cs_certificate.specs.Certificate.{At, Clause, NumberedLiteral, Stack, State, Farkas, Derives, farkas, IsNumberSort, IsContradiction}
 use Rattle.cs_certificate.specs.Linear.{Row, combination}
-use Rattle.cs_nodes.specs.Nodes.{Node, Represents}
-use Rattle.cs_nodes.specs.Steps.{Names}
+use Rattle.cs_certificate.specs.Nodes.{Node, Represents}
+use Rattle.cs_certificate.specs.Steps.{Names}
 use Rattle.cs_farkas.specs.Sums.{Over, Outcome, Done, Leaves, Misses, Sums, ◌>>=◌}
 use Rattle.cs_farkas.specs.Rows.{Part, parts_of, sort_of_parts, of_sort, if_parts, may_multiply, contradicts, decided, cleared, add_all, refutes, if_combined, farkas_clause, is_of}
 use Rattle.cs_farkas.specs.Bridge.{Decides, FarkasByNumber}
 use Rattle.cs_farkas.proofs.Amounts.{Fine, Agrees}
 use Rattle.cs_farkas.proofs.Contradictions.{StandBy, all_fine, cleared_agrees, contradicts_to, contradicts_from}
 use Rattle.cs_farkas.proofs.Matches.{Matched, match_numbers, match_terms, one_sort_is, is_one_sort}
-use Rattle.vx_terms.proofs.Same.{and_parts}
-
-and_true : (a b : Bool) → a ≡ true → b ≡ true → (a && b) ≡ true
-and_true true b e f = f
-and_true false b e f = e
 
 done_is : {A : Type 0} {x y : A} → Done x ≡ Done y → x ≡ y
 done_is e = cc
@@ -79,7 +75,7 @@ module _ (nodes : List Node) (s : State) (stack : Stack) (width : ℕ) (r : Repr
   outcome_is a ps c rs k con Misses h = absurd h
   outcome_is a ps c rs k con (Leaves v) h = inr (v, refl)
   outcome_is a ps c rs k con (Done x) h =
-      inl (ap (λ b. (if b then Done x else Misses) >>= λ x. Done ls) (and_true _ _ k.its_signs (contradicts_from s.terms a ps rs k.stand x h con)))
+      inl (ap (λ b. (if b then Done x else Misses) >>= λ x. Done ls) (and_from _ _ k.its_signs (contradicts_from s.terms a ps rs k.stand x h con)))
 
   not_empty : (a : Sort) → IsContradiction a [] → ⊥
   not_empty a con = elim con.constant [ inl e ↦ cc | inr h ↦ (let at = (h.2).1 in cc) ]

@@ -2,6 +2,7 @@
 use Rattle.std.proofs.Common.{◌≡◌, ℕ, zero, suc, ◌+◌, ◌<◌, ◌≤◌, Bool, true, false, cond, List, [], ◌∷◌, ◌++◌, length, Option, Some, None, refl, sym, ◌∙◌, ap, ap₂, subst, arith}
 use Rattle.std.specs.Prelude.{nat_lt}
 use Rattle.std.proofs.lemmas.Bool.{lt-ltb, ltb-true}
+use Rattle.std.proofs.lemmas.Option.{same_Some}
 use Rattle.vx_frac.specs.Fractions.{Fraction, whole, product}
 use Rattle.vx_terms.specs.Sorts.{Operator, And, Or, Implies, Equal, Less, LessEqual, Add, Subtract, Multiply, Div, Mod}
 use Rattle.vx_terms.specs.Terms.{Term, Truth, Number, Part, Constant, Apply, Not, Binary, Ite, AllOf, SomeOf}
@@ -9,8 +10,8 @@ use Rattle.cs_certificate.specs.Terms.{head, parts}
 use Rattle.cs_certificate.specs.Certificate.{At, AllAt, no-terms, one-term}
 use Rattle.cs_certificate.specs.Linear.{minus_one, Multiple, Total, literal, multiple_by, linear, of_column, add_part, add_parts}
 use Rattle.cs_certificate.proofs.Fractions.{Eq, eq_refl, eq_trans, product_eq}
-use Rattle.cs_nodes.specs.Nodes.{Node, Represents}
-use Rattle.cs_nodes.proofs.Find.{one_at}
+use Rattle.cs_certificate.specs.Nodes.{Node, Represents}
+use Rattle.cs_certificate.proofs.Find.{one_at}
 use Rattle.cs_farkas.specs.Sums.{Sums, ◌>>=◌, times, add_constant, add_column, literal_of, literal_at, multiple, of_head, read_as, read_node, read_term}
 use Rattle.cs_farkas.specs.Sums as by_number
 use Rattle.cs_farkas.proofs.Amounts.{Fine, fine_then, times_fine, Agrees, constant_fine, column_fine, to_constant, to_column}
@@ -60,15 +61,12 @@ below_more m n (t ∷ ts) le = go _ _ _ _ (one_more (size t) m n le) (below_more
 pub fewer : (m n : ℕ) (ts : List Term) (k : ℕ) (t : Term) → At ts k t → m ≤ size t → size t < n → below m ts < below n ts
 fewer m n [] k t e l g = cc
 fewer m n (u ∷ us) zero t e l g =
-    let is : u ≡ t = some_is e in
+    let is : u ≡ t = same_Some _ _ e in
     let low : nat_lt (size u) m ≡ false = not_below (size u) m (subst (λ x. m ≤ size x) (sym is) l) in
     let high : nat_lt (size u) n ≡ true = lt-ltb (size u) n (subst (λ x. size x < n) (sym is) g) in
     let le : m ≤ n = between m (size t) n l g in
     go (nat_lt (size u) m) (nat_lt (size u) n) low high (below m us) (below n us) (below_more m n us le)
   where
-    some_is : {A : Type 0} {x y : A} → Some x ≡ Some y → x ≡ y
-    some_is e = cc
-
     between : (a b c : ℕ) → a ≤ b → b < c → a ≤ c
     between a b c x y = omega arith
 

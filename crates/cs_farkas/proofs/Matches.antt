@@ -2,29 +2,24 @@
 use Rattle.std.proofs.Common.{◌≡◌, ℕ, pos, Bool, true, false, ◌&&◌, ◌||◌, List, [], ◌∷◌, Option, Some, None, inl, inr, refl, sym, ◌∙◌, ap, ap₂, subst}
 use Rattle.std.specs.Prelude.{slice_get, int_le, if◌then◌else◌}
 use Rattle.std.specs.List.{list_all}
+use Rattle.std.proofs.lemmas.Option.{same_Some}
+use Rattle.std.proofs.lemmas.Bool.{and_from, and_parts}
 use Rattle.vx_frac.specs.Fractions.{Fraction}
 use Rattle.vx_terms.specs.Sorts.{Sort, IntSort, BoolSort, RealSort, RefSort, SnapSort, OtherSort, same_sort}
 use Rattle.vx_terms.specs.Terms.{Term}
-use Rattle.vx_terms.proofs.Same.{sort_is, and_parts}
+use Rattle.vx_terms.proofs.Same.{sort_is}
 use Rattle.cs_certificate.specs.Terms.{HasSort}
 use Rattle.cs_certificate.specs.Certificate.{At, Clause, NumberedLiteral, State, ReadsAll, no-literals, one-literal, IsNumberSort, MayMultiply, Rows, no-rows, one-row}
 use Rattle.cs_certificate.specs.Linear.{Relation, AtMostZero, BelowZero, IsZero, Row}
-use Rattle.cs_nodes.specs.Nodes.{Node, Represents}
-use Rattle.cs_nodes.specs.Steps.{Names, names-none}
-use Rattle.cs_nodes.proofs.Heads.{sort_same}
-use Rattle.cs_nodes.proofs.Find.{one_at}
-use Rattle.cs_nodes.proofs.Comparisons.{sort_at}
+use Rattle.cs_certificate.specs.Nodes.{Node, Represents}
+use Rattle.cs_certificate.specs.Steps.{Names, names-none}
+use Rattle.cs_certificate.proofs.Heads.{sort_same}
+use Rattle.cs_certificate.proofs.Find.{one_at}
+use Rattle.cs_certificate.proofs.Comparisons.{sort_at}
 use Rattle.cs_farkas.specs.Rows.{Bound, bound, Part, bound_at, number_sort, is_at, with_part, parts_of, is_of, if_one_sort, sort_of_parts, is_equation, may_multiply}
 use Rattle.cs_farkas.specs.Rows as rows
 use Rattle.cs_farkas.proofs.Contradictions.{StandBy, none_stand, one_stands}
 use Rattle.cs_farkas.proofs.Bounds.{compared_by, found_by, names_one}
-
-some_is : {A : Type 0} {x y : A} → Some x ≡ Some y → x ≡ y
-some_is e = cc
-
-and_true : (a b : Bool) → a ≡ true → b ≡ true → (a && b) ≡ true
-and_true true b e f = f
-and_true false b e f = e
 
 abbrev part : ℕ → ℕ → Relation → Fraction → Part
 part i j g m = record { bound = bound i j g; multiplier = m }
@@ -42,8 +37,8 @@ sign_from m BelowZero h = h
 
 -- sorts
 number_sort_is : (x a : Sort) → number_sort x ≡ Some a → IsNumberSort a × (x ≡ a)
-number_sort_is IntSort a e = let is = some_is e in (inl (sym is), is)
-number_sort_is RealSort a e = let is = some_is e in (inr (sym is), is)
+number_sort_is IntSort a e = let is = same_Some _ _ e in (inl (sym is), is)
+number_sort_is RealSort a e = let is = same_Some _ _ e in (inr (sym is), is)
 number_sort_is BoolSort a e = cc
 number_sort_is RefSort a e = cc
 number_sort_is SnapSort a e = cc
@@ -58,7 +53,7 @@ one_sort_is nodes [] a e = cc
 one_sort_is nodes (p ∷ ps) a e = go (rows.sort_at nodes p.bound.left) refl e
   where
     chosen : (b : Sort) (d : Bool) → list_all (is_of nodes b) (p ∷ ps) ≡ d → (if d then Some b else None) ≡ Some a → IsNumberSort b → IsNumberSort a × (list_all (is_of nodes a) (p ∷ ps) ≡ true)
-    chosen b true f e n = let is : b ≡ a = some_is e in (subst IsNumberSort is n, subst (λ x. list_all (is_of nodes x) (p ∷ ps) ≡ true) is f)
+    chosen b true f e n = let is : b ≡ a = same_Some _ _ e in (subst IsNumberSort is n, subst (λ x. list_all (is_of nodes x) (p ∷ ps) ≡ true) is f)
     chosen b false f e n = cc
 
     at_node : (o : Option Node) (b : Sort) → elim o [ Some n ↦ number_sort n.sort | None ↦ None ] ≡ Some b → IsNumberSort b
@@ -113,8 +108,8 @@ module _ (nodes : List Node) (s : State) (r : Represents nodes s.terms) (a : Sor
         record { multiplier = m; constraint = record { left = x.left; right = x.right; relation = b.relation } } ∷ rs,
         record {
           its_parts = ap₂ (λ o p. with_part o m p) e k.its_parts;
-          its_sorts = and_true _ _ is k.its_sorts;
-          its_signs = and_true _ _ may k.its_signs;
+          its_sorts = and_from _ _ is k.its_sorts;
+          its_signs = and_from _ _ may k.its_signs;
           is_read = one-literal x.is_read k.is_read;
           names = names_one s l x.literal ls c x.is_read k.names;
           its_rows = one-row x.constrains (sorted b.left x.left x.its_left sides.0) (sorted b.right x.right x.its_right sides.1) (sign_to m b.relation may) k.its_rows;
@@ -124,7 +119,7 @@ module _ (nodes : List Node) (s : State) (r : Represents nodes s.terms) (a : Sor
 
   pub match_numbers : (ls : List NumberedLiteral) (ms : List Fraction) (ps : List Part) → parts_of nodes ls ms ≡ Some ps → list_all (is_of nodes a) ps ≡ true → list_all may_multiply ps ≡ true → (c : Clause) × (rs : List Row) × Matched nodes s a ls ms ps c rs
   match_numbers [] [] ps e f g =
-      subst (λ qs. (c : Clause) × (rs : List Row) × Matched nodes s a [] [] qs c rs) (some_is e)
+      subst (λ qs. (c : Clause) × (rs : List Row) × Matched nodes s a [] [] qs c rs) (same_Some _ _ e)
       ([], [], record { its_parts = refl; its_sorts = refl; its_signs = refl; is_read = no-literals; names = names-none; its_rows = no-rows; stand = none_stand })
   match_numbers [] (m ∷ ms) ps e f g = cc
   match_numbers (l ∷ ls) [] ps e f g = cc
@@ -137,7 +132,7 @@ module _ (nodes : List Node) (s : State) (r : Represents nodes s.terms) (a : Sor
       go None (Some qs) x y e k = cc
       go (Some b) None x y e k = cc
       go (Some b) (Some qs) x y e k =
-          let is : record { bound = b; multiplier = m } ∷ qs ≡ ps = some_is e in
+          let is : record { bound = b; multiplier = m } ∷ qs ≡ ps = same_Some _ _ e in
           let sorts = and_parts (is_of nodes a record { bound = b; multiplier = m }) (list_all (is_of nodes a) qs) (ap (list_all (is_of nodes a)) is ∙ f) in
           let signs = and_parts (may_multiply record { bound = b; multiplier = m }) (list_all may_multiply qs) (ap (list_all may_multiply) is ∙ g) in
           subst (λ zs. (c : Clause) × (rs : List Row) × Matched nodes s a (l ∷ ls) (m ∷ ms) zs c rs) is
@@ -148,12 +143,12 @@ module _ (nodes : List Node) (s : State) (r : Represents nodes s.terms) (a : Sor
   match_terms _ _ _ _ (one-literal {n = l} {l = x} {ns = ls} {c = c} h more) (one-row {c = k} {m = m} {ms = ms} {rs = rs} con p q may rest) =
       let y = match_terms ls ms c rs more rest in
       let f = found_by nodes s r l x k h con in
-      let sorts : is_of nodes a (part f.i f.j k.relation m) ≡ true = and_true _ _ (is_sorted f.i k.left f.its_left p) (is_sorted f.j k.right f.its_right q) in (
+      let sorts : is_of nodes a (part f.i f.j k.relation m) ≡ true = and_from _ _ (is_sorted f.i k.left f.its_left p) (is_sorted f.j k.right f.its_right q) in (
         part f.i f.j k.relation m ∷ y.0,
         record {
           its_parts = ap₂ (λ o z. with_part o m z) f.its_bound (y.1).its_parts;
-          its_sorts = and_true _ _ sorts (y.1).its_sorts;
-          its_signs = and_true _ _ (sign_from m k.relation may) (y.1).its_signs;
+          its_sorts = and_from _ _ sorts (y.1).its_sorts;
+          its_signs = and_from _ _ (sign_from m k.relation may) (y.1).its_signs;
           is_read = one-literal h more;
           names = names_one s l x ls c h (y.1).names;
           its_rows = one-row con p q may rest;

@@ -4,7 +4,7 @@ use Rattle.vx_frac.specs.Fractions.{Fraction}
 use Rattle.vx_frac.specs.Fraction.{fraction}
 use Rattle.vx_frac.specs.declared.Frac.{Frac}
 use Rattle.cs_certificate.specs.Certificate.{NumberedLiteral}
-use Rattle.cs_nodes.specs.Nodes.{Node}
+use Rattle.cs_certificate.specs.Nodes.{Node}
 use Rattle.cs_table.specs.Gives.{numbered, clause}
 use Rattle.cs_table.specs.declared.steps.Literal.{Literal}
 use Rattle.cs_farkas.specs.Rows.{Bound, Part, bound_at, with_part, parts_of}

@@ -7,7 +7,7 @@ use Rattle.vx_frac.specs.Fractions.{Fraction, none, full}
 use Rattle.vx_terms.specs.Sorts.{Sort}
 use Rattle.cs_certificate.specs.Certificate.{NumberedLiteral}
 use Rattle.cs_certificate.specs.Linear.{minus_one}
-use Rattle.cs_nodes.specs.Nodes.{Node}
+use Rattle.cs_certificate.specs.Nodes.{Node}
 use Rattle.cs_farkas.specs.Sums.{Outcome, Done, Leaves, Misses, ◌>>=◌, times, plus, Sums, add_constant, add_column, Reading, Literal, Sum, Difference, Multiple, Column, of_head, read_as, read_node, read_term}
 use Rattle.cs_farkas.specs.Rows.{Part, is_raised, one_more, add_part, add_all, is_zero, is_above, is_strict, may_multiply, contradicts, decided, cleared, Combination, combination_of, refutes, if_combined, farkas_clause}
 

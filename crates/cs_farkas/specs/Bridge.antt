@@ -2,8 +2,8 @@
 use Rattle.std.specs.Prelude.{◌≡◌, ℕ, ◌≤◌, ◌⊎◌, List, length}
 use Rattle.vx_frac.specs.Fractions.{Fraction}
 use Rattle.cs_certificate.specs.Certificate.{Clause, NumberedLiteral, Farkas, Stack, State, Derives}
-use Rattle.cs_nodes.specs.Nodes.{Node, Represents}
-use Rattle.cs_nodes.specs.Steps.{Names}
+use Rattle.cs_certificate.specs.Nodes.{Node, Represents}
+use Rattle.cs_certificate.specs.Steps.{Names}
 use Rattle.cs_farkas.specs.Sums.{Over, Outcome, Done, Leaves}
 use Rattle.cs_farkas.specs.Rows.{farkas_clause}
 

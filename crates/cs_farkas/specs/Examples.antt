@@ -6,8 +6,8 @@ use Rattle.vx_terms.specs.Sorts.{Sort, IntSort, BoolSort, RealSort, Variable, Eq
 use Rattle.cs_certificate.specs.Terms.{Head, NumberHead, PartHead, ConstantHead, BinaryHead, NotHead}
 use Rattle.cs_certificate.specs.Linear.{AtMostZero, BelowZero, IsZero}
 use Rattle.cs_certificate.specs.Certificate.{Plain, Negated}
-use Rattle.cs_nodes.specs.Nodes.{Node}
-use Rattle.cs_nodes.specs.Steps.{plain, denial}
+use Rattle.cs_certificate.specs.Nodes.{Node}
+use Rattle.cs_certificate.specs.Steps.{plain, denial}
 use Rattle.cs_farkas.specs.Sums.{Done, Leaves, Misses, Literal, Sum, Difference, Multiple, Column, times, plus, of_head}
 use Rattle.cs_farkas.specs.Rows.{bound, comparison, Part, combination_of, farkas_clause, is_raised, is_strict, may_multiply}
 

@@ -7,7 +7,7 @@ use Rattle.vx_terms.specs.Sorts.{Sort, IntSort, RealSort, Equal, Less, LessEqual
 use Rattle.cs_certificate.specs.Terms.{Head, BinaryHead}
 use Rattle.cs_certificate.specs.Linear.{minus_one, Relation, AtMostZero, BelowZero, IsZero}
 use Rattle.cs_certificate.specs.Certificate.{Sign, Plain, Negated, NumberedLiteral}
-use Rattle.cs_nodes.specs.Nodes.{Node}
+use Rattle.cs_certificate.specs.Nodes.{Node}
 use Rattle.cs_farkas.specs.Sums.{Outcome, Done, Misses, Sums, ◌>>=◌, read_term, add_constant}
 
 -- left less right, by number

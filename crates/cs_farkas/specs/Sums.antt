@@ -6,7 +6,7 @@ use Rattle.vx_frac.specs.declared.Op.TheVariants as calls
 use Rattle.vx_terms.specs.Sorts.{Operator, Add, Subtract, Multiply}
 use Rattle.cs_certificate.specs.Terms.{Head, NumberHead, PartHead, BinaryHead}
 use Rattle.cs_certificate.specs.Linear.{minus_one}
-use Rattle.cs_nodes.specs.Nodes.{Node}
+use Rattle.cs_certificate.specs.Nodes.{Node}
 
 -- the call that leaves 128 bits
 pub record Over : Type 0 where

@@ -10,12 +10,12 @@ use Rattle.vx_terms.specs.Interpretations.{Each}
 use Rattle.vx_terms.proofs.Values.{sort_of_formed}
 use Rattle.cs_certificate.specs.Terms.{HasSort}
 use Rattle.cs_certificate.specs.Certificate.{Stack}
-use Rattle.cs_nodes.specs.Nodes.{Represents}
-use Rattle.cs_nodes.proofs.Find.{one_at}
+use Rattle.cs_certificate.specs.Nodes.{Represents}
+use Rattle.cs_certificate.proofs.Find.{one_at}
 use Rattle.cs_tables.proofs.Made.{represents}
-use Rattle.cs_hints.specs.declared.Literal.{Literal}
-use Rattle.cs_hints.specs.declared.Clause.{Clause}
-use Rattle.cs_hints.specs.Bridge.{term_at, signed, view, views, IsNumbered}
+use Rattle.cs_certificate.specs.declared.literal.Literal.{Literal}
+use Rattle.cs_certificate.specs.declared.literal.Clause.{Clause}
+use Rattle.cs_certificate.specs.Bridge.{term_at, signed, view, views, IsNumbered}
 use Rattle.cs_derivation.specs.Reached.{Reached}
 use Rattle.cs_ground.specs.Ground.{term_of, IsGround}
 use Rattle.cs_ground.specs.Ground as ground

@@ -3,6 +3,7 @@ use Rattle.std.proofs.Common.{◌≡◌, inl, inr, ℕ, zero, suc, ◌+◌, ◌<
 use Rattle.std.specs.Prelude.{slice_get}
 use Rattle.std.specs.Option.{is_some}
 use Rattle.std.proofs.lemmas.List.{length-map}
+use Rattle.std.proofs.lemmas.Option.{same_Some}
 use Rattle.vx_terms.specs.Sorts.{Sort, BoolSort, And, Or, Implies, Equal, Less, LessEqual, Add, Subtract, Multiply, Div, Mod, same_sort}
 use Rattle.vx_terms.specs.Terms.{Term, Truth, Number, Part, Constant, Apply, Not, Binary, Ite, AllOf, SomeOf, sort_of}
 use Rattle.vx_terms.specs.Formed.{Formed, truth, ites}
@@ -19,7 +20,7 @@ use Rattle.cs_derivation.specs.Reached.{Reached, Stands, IsNamed}
 use Rattle.cs_ground.specs.Ground.{AreOfOneSort}
 use Rattle.cs_ground.specs.Steps.{Begins, HasEquality, IsNaming, NamesMore, NamesPairs, NamesAlias, NamesTurned, NamesAliases, NamesAll, choice_of, sides, IsFresh, IsBehind, IsAlias, AllIn}
 use Rattle.cs_ground.specs.declared.aliases.Alias.{Alias}
-use Rattle.cs_ground.proofs.Lists.{some_is, one_more, at_within, mapped_at, begins_at, begins_contains, front_at, place_at, no_place}
+use Rattle.cs_ground.proofs.Lists.{one_more, at_within, mapped_at, begins_at, begins_contains, front_at, place_at, no_place}
 use Rattle.cs_ground.proofs.Parts.{in_subterms}
 use Rattle.cs_ground.proofs.Paired.{equality_sorted, sides_sorted}
 use Rattle.cs_ground.proofs.Naming.{NamesOne, names_one, names_none, names_on, still_named, keeps_equality, pairs_of_all, FirstOf}
@@ -100,14 +101,14 @@ module _ (stack : Stack) (r q p : Reached) (b a c : Term) (h : IsNaming stack r)
     is_joined : {t : Term} → t ≡ equal (equal b a) (equal c a) → Known t
 
   two_parts : (x y u : Term) → Known x → Known y → Contains (x ∷ y ∷ []) u → Known u
-  two_parts x y u f g (zero, e) = subst Known (some_is e) f
-  two_parts x y u f g (suc zero, e) = subst Known (some_is e) g
+  two_parts x y u f g (zero, e) = subst Known (same_Some _ _ e) f
+  two_parts x y u f g (suc zero, e) = subst Known (same_Some _ _ e) g
   two_parts x y u f g (suc (suc n), e) = cc
 
   three_parts : (x y z u : Term) → Known x → Known y → Known z → Contains (x ∷ y ∷ z ∷ []) u → Known u
-  three_parts x y z u f g i (zero, e) = subst Known (some_is e) f
-  three_parts x y z u f g i (suc zero, e) = subst Known (some_is e) g
-  three_parts x y z u f g i (suc (suc zero), e) = subst Known (some_is e) i
+  three_parts x y z u f g i (zero, e) = subst Known (same_Some _ _ e) f
+  three_parts x y z u f g i (suc zero, e) = subst Known (same_Some _ _ e) g
+  three_parts x y z u f g i (suc (suc zero), e) = subst Known (same_Some _ _ e) i
   three_parts x y z u f g i (suc (suc (suc n)), e) = cc
 
   down : (t u : Term) → Known t → Contains (parts t) u → Known u
@@ -214,7 +215,7 @@ none_for_others stack r aliases t h e = record {
 }
 
 pub sides_are : (t b a : Term) → Some (b, a) ≡ sides t → t ≡ equal b a
-sides_are (Binary Equal x y) b a e = let p : (b, a) ≡ (x, y) = some_is e in sym (ap (λ (s : Term × Term). equal s.0 s.1) p)
+sides_are (Binary Equal x y) b a e = let p : (b, a) ≡ (x, y) = same_Some _ _ e in sym (ap (λ (s : Term × Term). equal s.0 s.1) p)
 sides_are (Binary And x y) b a e = cc
 sides_are (Binary Or x y) b a e = cc
 sides_are (Binary Implies x y) b a e = cc
@@ -293,7 +294,7 @@ aliases_next view xs i t stack r q p old new at k g f = record { more = names_on
     every : (b a : Term) → FirstOf view xs (i + 1) (equal b a) → IsBehind r.terms b a → (x : Alias) × Contains new x × IsAlias p.terms b a x
     every b a w l = elim (one_more w.0 i w.1) [
       | inl lt ↦ (let x = g.every b a (w.0, lt, w.2) l in (x.0, h.kept x.0 x.1, alias_later q.terms p.terms b a x.0 (h.more).begins x.2))
-      | inr e ↦ h.alias b a (some_is (sym (mapped_at view xs i t at) ∙ ap (λ n. slice_get (map view xs) n) (sym e) ∙ w.2)) (behind_later r.terms q.terms b a (g.more).begins l)
+      | inr e ↦ h.alias b a (same_Some _ _ (sym (mapped_at view xs i t at) ∙ ap (λ n. slice_get (map view xs) n) (sym e) ∙ w.2)) (behind_later r.terms q.terms b a (g.more).begins l)
     ]
 
 pub aliases_all : {X : Type 0} (view : X → Term) (xs : List X) (count : ℕ) (stack : Stack) (r q : Reached) (aliases : List Alias) → length xs ≤ count → NamesAliases stack r q aliases (FirstOf view xs count) → NamesAliases stack r q aliases (Contains (map view xs))

@@ -2,17 +2,18 @@
 use Rattle.std.proofs.Common.{◌≡◌, ◌⊎◌, inl, inr, ℕ, ◌+◌, ◌<◌, ◌≤◌, false, List, [], ◌∷◌, length, Option, Some, None, Ok, refl, sym, ◌∙◌, ap, subst, arith}
 use Rattle.std.proofs.lemmas.Bool.{cases_lt}
 use Rattle.std.specs.Option.{is_some}
+use Rattle.std.proofs.lemmas.Option.{same_Some}
 use Rattle.vx_terms.specs.Sorts.{BoolSort}
 use Rattle.vx_terms.specs.Terms.{Term, Ite}
 use Rattle.vx_terms.specs.Interpretations.{Each}
 use Rattle.cs_certificate.specs.Terms.{HasSort}
 use Rattle.cs_certificate.specs.Certificate.{Yes, Clause, NumberedLiteral, Stack, State, Step, Input, Define, Pick, Chain, Congruence, At, AllAt, Contains, Equates, Links, end, link, Pairs, no-pairs, same, differ, Derives, input, define, pick-then, pick-else, chain, congruence}
-use Rattle.cs_nodes.specs.Nodes.{Node, Represents}
-use Rattle.cs_nodes.specs.Steps.{Names, Computes}
-use Rattle.cs_nodes.proofs.Definitions.{define_computes}
-use Rattle.cs_nodes.proofs.Picks.{pick_computes}
-use Rattle.cs_nodes.proofs.Chains.{chain_computes, congruence_computes}
-use Rattle.cs_nodes.proofs.Find.{one_at}
+use Rattle.cs_certificate.specs.Nodes.{Node, Represents}
+use Rattle.cs_certificate.specs.Steps.{Names, Computes}
+use Rattle.cs_certificate.proofs.Definitions.{define_computes}
+use Rattle.cs_certificate.proofs.Picks.{pick_computes}
+use Rattle.cs_certificate.proofs.Chains.{chain_computes, congruence_computes}
+use Rattle.cs_certificate.proofs.Find.{one_at}
 use Rattle.cs_numbers.proofs.Numbered.{in_left, in_right}
 use Rattle.cs_numbers.proofs.Tables.{Ready, ready, tabulates}
 use Rattle.cs_proof.specs.declared.checker.Want.{Want}
@@ -21,7 +22,7 @@ use Rattle.cs_derivation.specs.Reached.{Reached, Stands, state_of, IsDerived, Ad
 use Rattle.cs_ground.specs.Ground.{AreAtoms}
 use Rattle.cs_ground.specs.Steps.{bare, IsClausal, Collects, OfFirst, IsRowOf, IsOf, IsInputOf, IsChainOfOne, IsCongruenceOfOne, IsOfAlias, IsOfAliases, IsWanted, an_input, of_term, a_chain, a_congruence, of_alias}
 use Rattle.cs_ground.specs.declared.aliases.Alias.{Alias}
-use Rattle.cs_ground.proofs.Lists.{some_is, one_more, at_within, each_at, each_last, all_at}
+use Rattle.cs_ground.proofs.Lists.{one_more, at_within, each_at, each_last, all_at}
 use Rattle.cs_ground.proofs.GroundAtoms.{atom, test_atom, named_atom, row_atoms, chain_atoms, congruence_atoms}
 use Rattle.cs_ground.proofs.Rows.{no_more_rows}
 
@@ -64,7 +65,7 @@ one_computed : (nodes : List Node) (s : State) (stack : Stack) (step : Step) (o 
 one_computed nodes s stack step o c d h p q =
     let x = h.complete c p in
     let y = h.complete d q in
-    one_clause s.terms x.1 (subst (λ ns. Names s.terms ns d) (some_is (sym y.2 ∙ x.2)) y.1)
+    one_clause s.terms x.1 (subst (λ ns. Names s.terms ns d) (same_Some _ _ (sym y.2 ∙ x.2)) y.1)
 
 one_derived : (nodes : List Node) (s : State) (stack : Stack) {step : Step} (c d : Clause) → Represents nodes s.terms → IsTried step → Derives stack s step c → Derives stack s step d → c ≡ d
 one_derived nodes s stack _ _ r (is_input n) (input {t = t} p) (input {t = u} q) = ap (λ x. Yes x ∷ []) (one_at stack.assertions n t u p q)

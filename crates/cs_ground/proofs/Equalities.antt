@@ -1,12 +1,13 @@
 -- Numbered equalities, and which terms they make the same.
 use Rattle.std.proofs.Common.{◌≡◌, ◌⊎◌, inl, inr, ℕ, zero, suc, ◌<◌, true, List, [], ◌∷◌, refl, sym, subst, arith}
+use Rattle.std.proofs.lemmas.Option.{same_Some}
 use Rattle.vx_terms.specs.Terms.{Term}
 use Rattle.cs_certificate.specs.Terms.{equal}
 use Rattle.cs_certificate.specs.Certificate.{State, At, Contains, IsEquality, Equates}
 use Rattle.cs_classes.specs.Elements.{Assignment}
 use Rattle.cs_ground.specs.Ground.{IsEquated}
 use Rattle.cs_ground.specs.Classed.{AreSame, identical, equated}
-use Rattle.cs_ground.proofs.Members.{some_is, one_or_two}
+use Rattle.cs_ground.proofs.Members.{one_or_two}
 
 -- ---- order
 -- an equality of two terms is one in the other order
@@ -61,13 +62,13 @@ first_later : (t : Term) (ts : List Term) (x y : Term) → ¬ (IsEquality x y t)
 first_later t ts x y h r = record { number = suc r.number; equality = r.equality; here = r.here; is = r.is; first = first }
   where
     first : (m : ℕ) (f : Term) → m < suc r.number → At (t ∷ ts) m f → IsEquality x y f → ⊥
-    first zero f lt p q = h (subst (IsEquality x y) (sym (some_is p)) q)
+    first zero f lt p q = h (subst (IsEquality x y) (sym (same_Some _ _ p)) q)
     first (suc m) f lt p q = r.first m f (omega arith) p q
 
 -- where there is an equality, there is a first one
 first_of : (terms : List Term) (x y e : Term) → IsEquality x y e → (n : ℕ) → At terms n e → HasFirst terms x y
 first_of [] x y e is n at = cc
-first_of (t ∷ ts) x y e is zero at = record { number = 0; equality = t; here = refl; is = subst (IsEquality x y) (sym (some_is at)) is; first = λ m f lt p q. omega arith }
+first_of (t ∷ ts) x y e is zero at = record { number = 0; equality = t; here = refl; is = subst (IsEquality x y) (sym (same_Some _ _ at)) is; first = λ m f lt p q. omega arith }
 first_of (t ∷ ts) x y e is (suc n) at = elim (is_equality x y t) [
   | inl h ↦ record { number = 0; equality = t; here = refl; is = h; first = λ m f lt p q. omega arith }
   | inr h ↦ first_later t ts x y h (first_of ts x y e is n at)

@@ -1,5 +1,6 @@
 -- Clauses are of numbered Bool terms.
 use Rattle.std.proofs.Common.{◌≡◌, inl, inr, ℕ, zero, suc, true, false, List, [], ◌∷◌, ◌++◌, map, refl, sym, ◌∙◌, subst}
+use Rattle.std.proofs.lemmas.Option.{same_Some}
 use Rattle.vx_terms.specs.Sorts.{Sort, BoolSort, And, Or, Implies, Equal}
 use Rattle.vx_terms.specs.Terms.{Term, Truth, Not, Binary, Ite, Terms}
 use Rattle.vx_terms.specs.Formed.{Formed, truth, nots, binary, ites, all_of, some_of, FormedBools, no_bools, more_bools}
@@ -9,7 +10,7 @@ use Rattle.cs_certificate.specs.Terms.{items, parts, equal, HasSort}
 use Rattle.cs_certificate.specs.Certificate.{Yes, No, Clause, State, At, Contains, IsEquality, Equates, Links, end, link, Pairs, no-pairs, same, differ, IsAnd, and-of-two, and-of-more, IsOr, or-of-two, or-of-more, Defines, true-is, false-is, not-0, not-1, and-part, and-all, or-part, or-all, implies-0, implies-1, implies-2, ite-0, ite-1, ite-2, ite-3, equal-0, equal-1, equal-2, equal-3}
 use Rattle.cs_numbers.specs.Laws.{IsSorted}
 use Rattle.cs_ground.specs.Ground.{term_of, AreAtoms}
-use Rattle.cs_ground.proofs.Lists.{some_is, each_last}
+use Rattle.cs_ground.proofs.Lists.{each_last}
 use Rattle.cs_ground.proofs.Paired.{equality_bool}
 
 -- ---- sorts
@@ -66,7 +67,7 @@ module _ (terms : List Term) (closed : (u p : Term) → Contains terms u → Con
 
   atom_at : (xs : List Term) (k : ℕ) (x : Term) → Each IsAtom xs → At xs k x → IsAtom x
   atom_at [] k x h e = cc
-  atom_at (y ∷ xs) zero x h e = subst IsAtom (some_is e) h.0
+  atom_at (y ∷ xs) zero x h e = subst IsAtom (same_Some _ _ e) h.0
   atom_at (y ∷ xs) (suc k) x h e = atom_at xs k x h.1 e
 
   and_atoms : {n : ℕ} {t : Term} {a : Sort} {xs : List Term} → Formed n t a → Contains terms t → IsAnd t xs → Each IsAtom xs

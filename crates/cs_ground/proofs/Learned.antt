@@ -4,9 +4,9 @@ use Rattle.std.proofs.lemmas.List.{length-append, map-append, take-append-le, ta
 use Rattle.std.proofs.lemmas.List.Elements.{All-nil}
 use Rattle.std.proofs.lemmas.Option.{slice_get_within, get_or_from_slice_get}
 use Rattle.cs_certificate.specs.Certificate.{Stack, At, Contains}
-use Rattle.cs_hints.specs.declared.Literal.{Literal}
-use Rattle.cs_hints.specs.declared.Clause.{Clause}
-use Rattle.cs_hints.specs.Bridge.{views}
+use Rattle.cs_certificate.specs.declared.literal.Literal.{Literal}
+use Rattle.cs_certificate.specs.declared.literal.Clause.{Clause}
+use Rattle.cs_certificate.specs.Bridge.{views}
 use Rattle.cs_derivation.specs.Reached.{Reached, state_of}
 use Rattle.cs_derivation.specs.View.{reached}
 use Rattle.cs_derivation.specs.declared.derivation.Derivation.{Derivation}

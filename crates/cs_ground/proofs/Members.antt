@@ -1,14 +1,11 @@
 -- Members of lists, and terms that are one or two.
-use Rattle.std.proofs.Common.{◌≡◌, ◌⊎◌, inl, inr, ℕ, zero, suc, ◌<◌, Bool, true, false, List, [], ◌∷◌, take, length, Some, refl, sym, ◌∙◌, subst, arith}
+use Rattle.std.proofs.Common.{◌≡◌, ◌⊎◌, inl, inr, ℕ, zero, suc, ◌<◌, Bool, true, false, List, [], ◌∷◌, take, length, refl, sym, ◌∙◌, subst, arith}
+use Rattle.std.proofs.lemmas.Option.{same_Some}
 use Rattle.vx_terms.specs.Terms.{Term, same}
 use Rattle.vx_terms.specs.Interpretations.{Each}
 use Rattle.vx_terms.proofs.Same.{term_is}
 use Rattle.cs_certificate.specs.Certificate.{At, Contains}
 use Rattle.cs_numbers.proofs.Itself.{term_same}
-
--- one member
-pub some_is : {A : Type 0} {x y : A} → Some x ≡ Some y → x ≡ y
-some_is e = cc
 
 -- two terms are one, or differ
 pub one_or_two : (t u : Term) → (t ≡ u) ⊎ ¬ (t ≡ u)
@@ -21,7 +18,7 @@ one_or_two t u = go (same t u) refl
 -- what holds of each holds of a member
 pub each_in : {A : Type 0} (P : A → Type 0) (xs : List A) (x : A) → Each P xs → Contains xs x → P x
 each_in P [] x h (n, e) = cc
-each_in P (y ∷ xs) x h (zero, e) = subst P (some_is e) h.0
+each_in P (y ∷ xs) x h (zero, e) = subst P (same_Some _ _ e) h.0
 each_in P (y ∷ xs) x h (suc n, e) = each_in P xs x h.1 (n, e)
 
 -- and what holds of all members holds of each

@@ -3,6 +3,7 @@ use Rattle.std.proofs.Common.{◌≡◌, ◌⊎◌, inl, inr, ℕ, zero, suc, �
 use Rattle.std.specs.Prelude.{slice_get}
 use Rattle.std.proofs.lemmas.List.{length-map}
 use Rattle.std.proofs.lemmas.Bool.{cases_lt}
+use Rattle.std.proofs.lemmas.Option.{same_Some}
 use Rattle.vx_terms.specs.Sorts.{BoolSort}
 use Rattle.vx_terms.specs.Terms.{Term}
 use Rattle.cs_certificate.specs.Terms.{equal, subterms, parts_of}
@@ -16,7 +17,7 @@ use Rattle.cs_writable.specs.Writable.{IsWritableTerm}
 use Rattle.cs_derivation.specs.Reached.{Reached, Stands, state_of, IsNamed, IsNew}
 use Rattle.cs_ground.specs.Ground.{IsFormed, AreOfOneSort}
 use Rattle.cs_ground.specs.Steps.{have_one_sort, HasEquality, IsNaming, NamesMore, NamesWith, NamesPairs, AllIn}
-use Rattle.cs_ground.proofs.Lists.{some_is, one_more, at_within, mapped_at, begins_contains}
+use Rattle.cs_ground.proofs.Lists.{one_more, at_within, mapped_at, begins_contains}
 use Rattle.cs_ground.proofs.Parts.{in_subterms, in_parts, live_part, writable_part, numbered_part}
 use Rattle.cs_ground.proofs.Paired.{same_told, one_sort, sorts_turned, equality_sorted, turned}
 
@@ -113,7 +114,7 @@ names_next view xs i b stack r q p x at g h = record {
   more = names_on stack r q p g.more h.more;
   equalities = λ y w d. elim (one_more w.0 i w.1) [
     | inl lt ↦ keeps_equality stack q p x y h.more (g.equalities y (w.0, lt, w.2) d)
-    | inr e ↦ h.equalities y (some_is (sym w.2 ∙ ap (λ k. slice_get (map view xs) k) e ∙ mapped_at view xs i b at)) d
+    | inr e ↦ h.equalities y (same_Some _ _ (sym w.2 ∙ ap (λ k. slice_get (map view xs) k) e ∙ mapped_at view xs i b at)) d
   ];
 }
 
@@ -153,7 +154,7 @@ pairs_next stack r q p terms i x at g h = record {
   equalities = λ m n u v lt less au av d. elim (one_more m i lt) [
     | inl f ↦ keeps_equality stack q p u v h.more (g.equalities m n u v f less au av d)
     | inr e ↦ (
-        let is : x ≡ u = some_is (sym at ∙ ap (λ k. slice_get terms k) (sym e) ∙ au) in
+        let is : x ≡ u = same_Some _ _ (sym at ∙ ap (λ k. slice_get terms k) (sym e) ∙ au) in
         subst (λ z. HasEquality p.terms z v) is (h.equalities v (behind terms i n v (subst (λ k. k < n) e less) av) (subst (λ z. AreOfOneSort z v) (sym is) d))
         )
   ];
@@ -181,7 +182,7 @@ pub pairs_of_all : (stack : Stack) (r q : Reached) → NamesPairs stack r q r.te
 pairs_of_all stack r q h x y (m, at) (n, be) two d = elim (in_order m n) [
   | inl lt ↦ h.equalities m n x y lt at be d
   | inr w ↦ elim w [
-    | inl e ↦ absurd (two (some_is (sym at ∙ ap (λ k. slice_get r.terms k) e ∙ be)))
+    | inl e ↦ absurd (two (same_Some _ _ (sym at ∙ ap (λ k. slice_get r.terms k) e ∙ be)))
     | inr lt ↦ turned q.terms y x (h.equalities n m y x lt be at (sorts_turned x y d))
   ]
 ]

@@ -1,12 +1,12 @@
 -- Atoms and classes, one more at a time.
-use Rattle.std.proofs.Common.{◌≡◌, ◌+◌, ◌<◌, inl, inr, ℕ, Bool, true, false, List, [], ◌∷◌, ◌++◌, get_or, length, take, Some, sym, ◌∙◌, ap, subst, arith}
+use Rattle.std.proofs.Common.{◌≡◌, ◌+◌, ◌<◌, inl, inr, ℕ, Bool, true, false, List, [], ◌∷◌, ◌++◌, get_or, length, take, sym, ◌∙◌, ap, subst, arith}
 use Rattle.std.proofs.lemmas.List.{length-append, length-map, length-take-le, map-append, take_more}
 use Rattle.vx_terms.specs.Sorts.{BoolSort, same_sort}
 use Rattle.vx_terms.specs.Views.{sort}
 use Rattle.vx_terms.proofs.Same.{sort_is}
 use Rattle.cs_certificate.specs.Certificate.{At}
-use Rattle.cs_nodes.specs.Nodes.{Node}
-use Rattle.cs_nodes.proofs.Heads.{sort_same}
+use Rattle.cs_certificate.specs.Nodes.{Node}
+use Rattle.cs_certificate.proofs.Heads.{sort_same}
 use Rattle.cs_table.specs.Views.{node, nodes}
 use Rattle.cs_table.specs.declared.node.Node.{Node as Node'}
 use Rattle.cs_search.proofs.Gets.{get_push_old, get_push_new, get_push_cases}
@@ -74,6 +74,3 @@ module _ (xs : List Node') (n : ℕ) (x : Node') (within : n < length xs) (at : 
   other_step s =
       subst (λ ys. AreAtoms ys terms (places ++ length terms ∷ [])) (sym one_more)
       (other_more (nodes (take n xs)) terms places (node x) (length terms) are (λ e. let f : true ≡ false = sym (sort_same BoolSort) ∙ ap (λ a. same_sort a BoolSort) (sym e) ∙ s in cc))
-
-pub some_is : {A : Type 0} {x y : A} → Some x ≡ Some y → x ≡ y
-some_is e = cc

@@ -1,5 +1,6 @@
 -- Terms of one sort, and their equalities.
 use Rattle.std.proofs.Common.{◌≡◌, ◌⊎◌, inl, inr, ℕ, zero, suc, ◌+◌, ◌<◌, ◌≤◌, Bool, true, false, List, [], ◌∷◌, refl, sym, ◌∙◌, ap, subst, arith}
+use Rattle.std.proofs.lemmas.Option.{same_Some}
 use Rattle.vx_terms.specs.Sorts.{BoolSort, Equal, same_sort}
 use Rattle.vx_terms.specs.Terms.{Term, same, sort_of}
 use Rattle.vx_terms.specs.Formed.{Formed, binary}
@@ -7,12 +8,11 @@ use Rattle.vx_terms.proofs.Same.{sort_is, term_is}
 use Rattle.vx_terms.proofs.Values.{sort_of_formed, formed_le}
 use Rattle.cs_certificate.specs.Terms.{equal, HasSort}
 use Rattle.cs_certificate.specs.Certificate.{State, At, IsEquality, Equates}
-use Rattle.cs_nodes.proofs.Heads.{sort_same}
+use Rattle.cs_certificate.proofs.Heads.{sort_same}
 use Rattle.cs_numbers.specs.Laws.{IsSorted}
 use Rattle.cs_numbers.proofs.Itself.{term_same}
 use Rattle.cs_ground.specs.Ground.{AreOfOneSort, IsEquated}
 use Rattle.cs_ground.specs.Steps.{have_one_sort, HasEquality}
-use Rattle.cs_ground.proofs.Lists.{some_is}
 
 -- ---- the test
 pub same_told : (x y : Term) → AreOfOneSort x y → have_one_sort x y ≡ true
@@ -81,12 +81,12 @@ first_later : (t : Term) (ts : List Term) (x y : Term) → ¬ (IsEquality x y t)
 first_later t ts x y h r = record { number = suc r.number; equality = r.equality; here = r.here; is = r.is; first = first }
   where
     first : (m : ℕ) (f : Term) → m < suc r.number → At (t ∷ ts) m f → IsEquality x y f → ⊥
-    first zero f lt p q = h (subst (IsEquality x y) (sym (some_is p)) q)
+    first zero f lt p q = h (subst (IsEquality x y) (sym (same_Some _ _ p)) q)
     first (suc m) f lt p q = r.first m f (omega arith) p q
 
 first_of : (terms : List Term) (x y e : Term) → IsEquality x y e → (n : ℕ) → At terms n e → HasFirst terms x y
 first_of [] x y e is n at = cc
-first_of (t ∷ ts) x y e is zero at = record { number = 0; equality = t; here = refl; is = subst (IsEquality x y) (sym (some_is at)) is; first = λ m f lt p q. omega arith }
+first_of (t ∷ ts) x y e is zero at = record { number = 0; equality = t; here = refl; is = subst (IsEquality x y) (sym (same_Some _ _ at)) is; first = λ m f lt p q. omega arith }
 first_of (t ∷ ts) x y e is (suc n) at = elim (is_equality x y t) [
   | inl h ↦ record { number = 0; equality = t; here = refl; is = h; first = λ m f lt p q. omega arith }
   | inr h ↦ first_later t ts x y h (first_of ts x y e is n at)

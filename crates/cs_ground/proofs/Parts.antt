@@ -1,5 +1,6 @@
 -- What goes on to parts holds of all subterms.
 use Rattle.std.proofs.Common.{◌≡◌, inl, inr, zero, suc, List, [], ◌∷◌, ◌++◌, Some, refl, sym, subst}
+use Rattle.std.proofs.lemmas.Option.{same_Some}
 use Rattle.vx_terms.specs.Sorts.{Sort, Symbol}
 use Rattle.vx_terms.specs.Terms.{Term, Truth, Number, Part, Constant, Apply, Not, Binary, Ite, AllOf, SomeOf, Terms, NoTerms, MoreTerms}
 use Rattle.vx_terms.specs.Interpretations.{Each}
@@ -9,12 +10,11 @@ use Rattle.cs_numbers.proofs.Added.{added_distinct}
 use Rattle.cs_numbers.proofs.Numbered.{in_either, from_added}
 use Rattle.cs_writable.specs.Writable.{IsWritableTerm, AreWritableTerms}
 use Rattle.cs_ground.specs.Ground.{IsFormed}
-use Rattle.cs_ground.proofs.Lists.{some_is}
 
 -- ---- a property that goes on to parts
 module _ (P : Term → Type 0) (down : (t p : Term) → P t → Contains (parts t) p → P p) where
   itself : (t u : Term) → P t → Some t ≡ Some u → P u
-  itself t u h e = subst P (some_is e) h
+  itself t u h e = subst P (same_Some _ _ e) h
 
   mutual
     pub in_subterms : (t u : Term) → P t → Contains (subterms t) u → P u
@@ -63,7 +63,7 @@ module _ (P : Term → Type 0) (down : (t p : Term) → P t → Contains (parts 
 module _ (stack : Stack) where
   items_live : (ts : Terms) (p : Term) → AllLive stack ts → Contains (items ts) p → AreLive stack p
   items_live NoTerms p h (n, e) = cc
-  items_live (MoreTerms t ts) p h (zero, e) = subst (AreLive stack) (some_is e) h.0
+  items_live (MoreTerms t ts) p h (zero, e) = subst (AreLive stack) (same_Some _ _ e) h.0
   items_live (MoreTerms t ts) p h (suc n, e) = items_live ts p h.1 (n, e)
 
   pub live_part : (t p : Term) → AreLive stack t → Contains (parts t) p → AreLive stack p
@@ -72,14 +72,14 @@ module _ (stack : Stack) where
   live_part (Part a) p h (n, e) = cc
   live_part (Constant f a) p h (n, e) = cc
   live_part (Apply f a ts) p h k = items_live ts p h.1 k
-  live_part (Not t) p h (zero, e) = subst (AreLive stack) (some_is e) h
+  live_part (Not t) p h (zero, e) = subst (AreLive stack) (same_Some _ _ e) h
   live_part (Not t) p h (suc n, e) = cc
-  live_part (Binary o t u) p h (zero, e) = subst (AreLive stack) (some_is e) h.0
-  live_part (Binary o t u) p h (suc zero, e) = subst (AreLive stack) (some_is e) h.1
+  live_part (Binary o t u) p h (zero, e) = subst (AreLive stack) (same_Some _ _ e) h.0
+  live_part (Binary o t u) p h (suc zero, e) = subst (AreLive stack) (same_Some _ _ e) h.1
   live_part (Binary o t u) p h (suc (suc n), e) = cc
-  live_part (Ite c t u) p h (zero, e) = subst (AreLive stack) (some_is e) h.0
-  live_part (Ite c t u) p h (suc zero, e) = subst (AreLive stack) (some_is e) h.1
-  live_part (Ite c t u) p h (suc (suc zero), e) = subst (AreLive stack) (some_is e) h.2
+  live_part (Ite c t u) p h (zero, e) = subst (AreLive stack) (same_Some _ _ e) h.0
+  live_part (Ite c t u) p h (suc zero, e) = subst (AreLive stack) (same_Some _ _ e) h.1
+  live_part (Ite c t u) p h (suc (suc zero), e) = subst (AreLive stack) (same_Some _ _ e) h.2
   live_part (Ite c t u) p h (suc (suc (suc n)), e) = cc
   live_part (AllOf ts) p h k = items_live ts p h k
   live_part (SomeOf ts) p h k = items_live ts p h k
@@ -87,7 +87,7 @@ module _ (stack : Stack) where
 -- ---- parts of writable terms are writable
 items_writable : (ts : Terms) (p : Term) → AreWritableTerms ts → Contains (items ts) p → IsWritableTerm p
 items_writable NoTerms p h (n, e) = cc
-items_writable (MoreTerms t ts) p h (zero, e) = subst IsWritableTerm (some_is e) h.0
+items_writable (MoreTerms t ts) p h (zero, e) = subst IsWritableTerm (same_Some _ _ e) h.0
 items_writable (MoreTerms t ts) p h (suc n, e) = items_writable ts p h.1 (n, e)
 
 pub writable_part : (t p : Term) → IsWritableTerm t → Contains (parts t) p → IsWritableTerm p
@@ -96,14 +96,14 @@ writable_part (Number z) p h (n, e) = cc
 writable_part (Part a) p h (n, e) = cc
 writable_part (Constant f a) p h (n, e) = cc
 writable_part (Apply f a ts) p h k = items_writable ts p h.1 k
-writable_part (Not t) p h (zero, e) = subst IsWritableTerm (some_is e) h
+writable_part (Not t) p h (zero, e) = subst IsWritableTerm (same_Some _ _ e) h
 writable_part (Not t) p h (suc n, e) = cc
-writable_part (Binary o t u) p h (zero, e) = subst IsWritableTerm (some_is e) h.0
-writable_part (Binary o t u) p h (suc zero, e) = subst IsWritableTerm (some_is e) h.1
+writable_part (Binary o t u) p h (zero, e) = subst IsWritableTerm (same_Some _ _ e) h.0
+writable_part (Binary o t u) p h (suc zero, e) = subst IsWritableTerm (same_Some _ _ e) h.1
 writable_part (Binary o t u) p h (suc (suc n), e) = cc
-writable_part (Ite c t u) p h (zero, e) = subst IsWritableTerm (some_is e) h.0
-writable_part (Ite c t u) p h (suc zero, e) = subst IsWritableTerm (some_is e) h.1
-writable_part (Ite c t u) p h (suc (suc zero), e) = subst IsWritableTerm (some_is e) h.2
+writable_part (Ite c t u) p h (zero, e) = subst IsWritableTerm (same_Some _ _ e) h.0
+writable_part (Ite c t u) p h (suc zero, e) = subst IsWritableTerm (same_Some _ _ e) h.1
+writable_part (Ite c t u) p h (suc (suc zero), e) = subst IsWritableTerm (same_Some _ _ e) h.2
 writable_part (Ite c t u) p h (suc (suc (suc n)), e) = cc
 writable_part (AllOf ts) p h k = items_writable ts p h.1 k
 writable_part (SomeOf ts) p h k = items_writable ts p h.1 k

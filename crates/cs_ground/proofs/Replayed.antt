@@ -11,14 +11,14 @@ use Rattle.vx_terms.specs.Interpretations.{Each}
 use Rattle.cs_certificate.specs.Terms.{HasSort}
 use Rattle.cs_certificate.specs.Certificate.{Yes, No, Sign, Plain, Negated, NumberedLiteral, Propagate, Stack, State, At, Reads, reads-plain, reads-negated, ReadsAll, no-literals, one-literal, Refutes, ends, forces, Derives, propagate}
 use Rattle.cs_certificate.specs.Certificate as certificate
-use Rattle.cs_nodes.specs.Nodes.{Represents}
-use Rattle.cs_nodes.proofs.Find.{one_at}
+use Rattle.cs_certificate.specs.Nodes.{Represents}
+use Rattle.cs_certificate.proofs.Find.{one_at}
 use Rattle.cs_table.specs.Gives.{sign_of}
 use Rattle.cs_tables.proofs.Made.{represents}
-use Rattle.cs_hints.specs.declared.Literal.{Literal}
-use Rattle.cs_hints.specs.declared.Clause.{Clause}
-use Rattle.cs_hints.specs.Bridge.{term_at, signed, views, state, IsNumbered, AreDistinct}
-use Rattle.cs_hints.proofs.Bridged.{bridged}
+use Rattle.cs_certificate.specs.declared.literal.Literal.{Literal}
+use Rattle.cs_certificate.specs.declared.literal.Clause.{Clause}
+use Rattle.cs_certificate.specs.Bridge.{term_at, signed, views, state, IsNumbered, AreDistinct}
+use Rattle.cs_certificate.proofs.Bridged.{bridged}
 use Rattle.cs_derivation.specs.Reached.{Reached, state_of, Adds}
 use Rattle.cs_derivation.specs.Reached as derivation
 use Rattle.cs_derivation.specs.Taken.{numbered}

@@ -4,21 +4,21 @@ use Rattle.std.specs.List.{Contains as Holds}
 use Rattle.std.specs.Option.{option_map}
 use Rattle.std.proofs.lemmas.List.{length-map, get_or-map}
 use Rattle.std.proofs.lemmas.List.Elements.{All-contains}
-use Rattle.std.proofs.lemmas.Option.{slice_get_within, slice_get-get_or, get_or_from_slice_get}
+use Rattle.std.proofs.lemmas.Option.{slice_get_within, slice_get-get_or, get_or_from_slice_get, same_Some}
 use Rattle.vx_terms.specs.Terms.{Term, Truth, same, sort_of}
 use Rattle.vx_terms.specs.Interpretations.{Each}
 use Rattle.vx_terms.proofs.Same.{term_is}
 use Rattle.vx_terms.proofs.Values.{sort_of_formed}
 use Rattle.cs_certificate.specs.Terms.{numbered}
 use Rattle.cs_certificate.specs.Certificate.{Stack, At}
-use Rattle.cs_nodes.specs.Nodes.{Node, Represents, equality}
-use Rattle.cs_nodes.proofs.Find.{one_at}
+use Rattle.cs_certificate.specs.Nodes.{Node, Represents, equality}
+use Rattle.cs_certificate.proofs.Find.{one_at}
 use Rattle.cs_numbers.proofs.Itself.{term_same}
-use Rattle.cs_nodes.proofs.Look.{tells_equalities}
+use Rattle.cs_certificate.proofs.Look.{tells_equalities}
 use Rattle.cs_numbers.specs.Numbering.{place}
-use Rattle.cs_hints.specs.declared.Literal.{Literal}
-use Rattle.cs_hints.specs.declared.Clause.{Clause as Clause'}
-use Rattle.cs_hints.specs.Bridge.{signed, view, views}
+use Rattle.cs_certificate.specs.declared.literal.Literal.{Literal}
+use Rattle.cs_certificate.specs.declared.literal.Clause.{Clause as Clause'}
+use Rattle.cs_certificate.specs.Bridge.{signed, view, views}
 use Rattle.cs_classes.specs.Elements.{Assignment}
 use Rattle.cs_classes.specs.Agreement.{holds, satisfies}
 use Rattle.cs_classes.specs.Laws.{IsAssigned}
@@ -39,9 +39,6 @@ use Rattle.cs_ground.specs.Assigned.{is_positive, is_true, truth_at, is_equated,
 use Rattle.cs_ground.proofs.Learned.{front_at}
 use Rattle.cs_ground.proofs.Replayed.{atom_term, represented}
 
-some_is : {A : Type 0} {x y : A} → Some x ≡ Some y → x ≡ y
-some_is e = cc
-
 -- ---- the number of a term
 tail_one : (u : Term) (us : List Term) → ((j k : ℕ) (t : Term) → At (u ∷ us) j t → At (u ∷ us) k t → j ≡ k) → (j k : ℕ) (t : Term) → At us j t → At us k t → j ≡ k
 tail_one u us one j k t x y = let e : suc j ≡ suc k = one (suc j) (suc k) t x y in omega arith
@@ -49,7 +46,7 @@ tail_one u us one j k t x y = let e : suc j ≡ suc k = one (suc j) (suc k) t x 
 place_is : (terms : List Term) (n : ℕ) (t : Term) → ((j k : ℕ) (t : Term) → At terms j t → At terms k t → j ≡ k) → At terms n t → place terms t ≡ Some n
 place_is [] n t one at = cc
 place_is (u ∷ us) zero t one at =
-    let is : u ≡ t = some_is at in
+    let is : u ≡ t = same_Some _ _ at in
     ap (λ b. if b then Some 0 else option_map suc (place us t)) (ap (same t) is ∙ term_same t)
 place_is (u ∷ us) (suc n) t one at = go (same t u) refl (place_is us n t (tail_one u us one) at)
   where

@@ -6,7 +6,7 @@ use Rattle.vx_terms.specs.Terms.{Term, Truth, Number, Part, Constant, Apply, Not
 use Rattle.vx_terms.specs.Interpretations.{Each}
 use Rattle.cs_certificate.specs.Terms.{equal, HasSort}
 use Rattle.cs_certificate.specs.Certificate.{Yes, No, Clause, Stack, State, Step, Pick, Chain, Congruence, At, no-terms, one-term, Contains, IsEquality, Equates, end, link, Pairs, no-pairs, same, differ, Defines, true-is, equal-0, equal-1, Derives, pick-then, chain, congruence}
-use Rattle.cs_nodes.proofs.Find.{one_at}
+use Rattle.cs_certificate.proofs.Find.{one_at}
 use Rattle.cs_classes.specs.Elements.{Assignment}
 use Rattle.cs_classes.specs.Agreement.{holds, satisfies}
 use Rattle.cs_numbers.proofs.Tables.{Ready}

@@ -1,8 +1,8 @@
 -- The truths and the classes of terms by number.
 use Rattle.std.specs.Prelude.{◌≡◌, ◌⊎◌, ℕ, ◌<◌, ◌≤◌, Bool, true, false, List, length, Option, Some, None, slice_get, get_or}
 use Rattle.cs_certificate.specs.Certificate.{At}
-use Rattle.cs_nodes.specs.Nodes.{Node, equality}
-use Rattle.cs_hints.specs.declared.Clause.{Clause}
+use Rattle.cs_certificate.specs.Nodes.{Node, equality}
+use Rattle.cs_certificate.specs.declared.literal.Clause.{Clause}
 use Rattle.cs_search.specs.Extended.{AreKnown}
 use Rattle.cs_search.specs.Search.{AreSatisfied}
 use Rattle.cs_search.specs.declared.Value.{Value}

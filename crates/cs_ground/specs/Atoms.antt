@@ -5,12 +5,12 @@ use Rattle.std.specs.List.{All}
 use Rattle.vx_terms.specs.Sorts.{BoolSort}
 use Rattle.vx_terms.specs.Terms.{Term}
 use Rattle.cs_certificate.specs.Certificate.{At}
-use Rattle.cs_nodes.specs.Nodes.{Node}
+use Rattle.cs_certificate.specs.Nodes.{Node}
 use Rattle.cs_table.specs.declared.steps.Stop.{Stop}
 use Rattle.cs_table.specs.declared.steps.Stop.TheVariants.{Want}
-use Rattle.cs_hints.specs.declared.Literal.{Literal}
-use Rattle.cs_hints.specs.declared.Clause.{Clause}
-use Rattle.cs_hints.specs.Bridge.{term_at}
+use Rattle.cs_certificate.specs.declared.literal.Literal.{Literal}
+use Rattle.cs_certificate.specs.declared.literal.Clause.{Clause}
+use Rattle.cs_certificate.specs.Bridge.{term_at}
 
 -- the term of this number is Bool
 abbrev pub IsBool : List Node → ℕ → Type 0

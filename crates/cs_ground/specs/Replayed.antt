@@ -5,9 +5,9 @@ use Rattle.vx_terms.specs.Sorts.{BoolSort}
 use Rattle.vx_terms.specs.Terms.{Term}
 use Rattle.cs_certificate.specs.Terms.{HasSort}
 use Rattle.cs_certificate.specs.Certificate.{Stack, At}
-use Rattle.cs_hints.specs.declared.Literal.{Literal}
-use Rattle.cs_hints.specs.declared.Clause.{Clause}
-use Rattle.cs_hints.specs.Bridge.{views}
+use Rattle.cs_certificate.specs.declared.literal.Literal.{Literal}
+use Rattle.cs_certificate.specs.declared.literal.Clause.{Clause}
+use Rattle.cs_certificate.specs.Bridge.{views}
 use Rattle.cs_derivation.specs.Reached.{Reached, Stands, state_of}
 use Rattle.cs_search.specs.Extended.{AreKnown}
 use Rattle.cs_search.specs.Propagation.{IsDerived}

@@ -2,12 +2,12 @@
 ghost use Rattle.std.specs.Prelude.{List, ◌≡◌, ◌<◌, ◌^◌, length, map, slice_get, IfOk};
 ghost use Rattle.std.specs.List.{All};
 ghost use Rattle.vx_terms.specs.Sorts.{BoolSort};
-ghost use Rattle.cs_nodes.specs.Nodes as clean;
+ghost use Rattle.cs_certificate.specs.Nodes as clean;
 ghost use Rattle.cs_table.specs.Table.{nodes_in};
 ghost use Rattle.cs_table.specs.Views.{nodes};
 ghost use Rattle.cs_ground.specs.Atoms.{MissesNothing, IsBool, AreBool, AreAtoms, named, all_named};
 
-use cs_hints::Literal;
+use cs_certificate::Literal;
 use cs_table::{Node, Stop, Table};
 use std::alloc::{AllocError, Global};
 use vx_terms::Sort;

@@ -1,13 +1,13 @@
 //! A search over the clauses of a derivation.
 ghost use Rattle.std.specs.Prelude.{List, ◌≡◌, ◌<◌, [], length, map, IfOk, slice_get, Some, ℕ};
 ghost use Rattle.std.specs.List.{All};
-ghost use Rattle.cs_nodes.specs.Nodes.{Node};
+ghost use Rattle.cs_certificate.specs.Nodes.{Node};
 ghost use Rattle.cs_search.specs.Extended.{AreKnown};
 ghost use Rattle.cs_search.specs.Search.{IsReady};
 ghost use Rattle.cs_ground.specs.Atoms.{MissesNothing, AreBool, AreAtoms, all_named, literals};
 
 use crate::atoms::Atoms;
-use cs_hints::Clause;
+use cs_certificate::Clause;
 use cs_search::Value;
 use cs_search::assignment::Assignment;
 use cs_search::order::Order;

@@ -2,7 +2,7 @@
 ghost use Rattle.std.specs.Prelude.{◌≡◌, List, map};
 ghost use Rattle.vx_terms.specs.Interpretations.{AllTrue};
 ghost use Rattle.cs_table.specs.Table.{nodes_in};
-ghost use Rattle.cs_hints.specs.declared.Clause.{Clause};
+ghost use Rattle.cs_certificate.specs.declared.literal.Clause.{Clause};
 ghost use Rattle.cs_model.specs.Models.{interpretation};
 ghost use Rattle.cs_proof.specs.Fits.{seen};
 ghost use Rattle.cs_derivation.specs.View.{reached};

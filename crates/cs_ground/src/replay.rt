@@ -2,7 +2,7 @@
 ghost use Rattle.std.specs.Prelude.{◌≡◌, ◌<◌, ◌++◌, [], ◌∷◌, List, map, length, reverse, IfOk};
 ghost use Rattle.std.specs.List.{All};
 ghost use Rattle.cs_certificate.specs.Certificate.{Stack};
-ghost use Rattle.cs_hints.specs.declared.Clause.{Clause};
+ghost use Rattle.cs_certificate.specs.declared.literal.Clause.{Clause};
 ghost use Rattle.cs_derivation.specs.View.{reached};
 ghost use Rattle.cs_proof.specs.Answers.{Answers};
 ghost use Rattle.cs_proof.specs.Checking.{Finished};
@@ -17,7 +17,7 @@ ghost use Rattle.cs_ground.specs.Replayed.{Follows, IsLearned};
 
 use crate::atoms::names;
 use cs_derivation::{Derivation, empty_clauses_finish};
-use cs_hints::{Clause, Literal};
+use cs_certificate::{Clause, Literal};
 use cs_proof::{Step, Want};
 use cs_search::search::{Hints, Search};
 use cs_table::Stop;

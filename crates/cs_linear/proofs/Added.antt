@@ -2,7 +2,7 @@
 use Rattle.std.proofs.Common.{◌≡◌, ℕ, zero, suc, ◌+◌, ◌<◌, ◌≤◌, true, List, [], ◌∷◌, ◌++◌, Option, Some, None, length, slice_get, get_or, drop, refl, sym, ◌∙◌, ap, ap₂, subst, arith, All, add-one, drop-cons, length-append}
 use Rattle.std.proofs.lemmas.List.{drop_all}
 use Rattle.std.proofs.lemmas.List.Elements.{All-weaker, All-cons, All-nil, All-get_or}
-use Rattle.std.proofs.lemmas.Option.{slice_get_within}
+use Rattle.std.proofs.lemmas.Option.{slice_get_within, same_Some}
 use Rattle.vx_frac.specs.Fractions.{Fraction, none, full, lowest}
 use Rattle.vx_frac.specs.Fraction.{fraction}
 use Rattle.vx_frac.specs.declared.Frac.{Frac}
@@ -15,7 +15,7 @@ use Rattle.cs_linear.specs.Values.{value, values}
 use Rattle.cs_linear.specs.Added.{IsIncluded}
 use Rattle.cs_linear.proofs.Arithmetic.{plus_assoc, plus_none, none_plus, times_lowest, lowest_of_times, lowest_none, full_times, times_none}
 use Rattle.cs_linear.proofs.Sums.{lowest_of_total, ascends_out}
-use Rattle.cs_linear.proofs.Lists.{each_more, some_is, none_some}
+use Rattle.cs_linear.proofs.Lists.{each_more, none_some}
 
 -- one item more leaves those before it
 
@@ -75,10 +75,10 @@ more_tableau rows homes r t b f u up = record {
       (λ i n en. still homes (Some (length rows)) (Some i) n.basic (t.basic i n en)) (ap (slice_get (homes ++ Some (length rows) ∷ [])) b ∙ last_is homes (Some (length rows))) i n en;
   within = λ k i h. each_more (λ k home. (i : ℕ) → home ≡ Some i → i < length (rows ++ r ∷ [])) homes (Some (length rows))
       (λ k home e i is. subst (λ n. i < n) (sym longer) (let lt = t.within k i (e ∙ ap Some is) in omega arith))
-      (λ i is. subst (λ n. i < n) (sym longer) (let e = some_is (length rows) i is in omega arith)) k (Some i) h i refl;
+      (λ i is. subst (λ n. i < n) (sym longer) (let e = same_Some (length rows) i is in omega arith)) k (Some i) h i refl;
   owner = λ k i n h en. each_more (λ k home. (i : ℕ) (n : Row) → home ≡ Some i → slice_get (rows ++ r ∷ []) i ≡ Some n → n.basic ≡ k) homes (Some (length rows))
       (λ k home e i n is en. t.owner k i n (e ∙ ap Some is) (sym (front rows r i (t.within k i (e ∙ ap Some is))) ∙ en))
-      (λ i n is en. ap (λ (n : Row). n.basic) (some_is n r (sym en ∙ ap (slice_get (rows ++ r ∷ [])) (sym (some_is (length rows) i is)) ∙ last_is rows r)) ∙ b)
+      (λ i n is en. ap (λ (n : Row). n.basic) (same_Some n r (sym en ∙ ap (slice_get (rows ++ r ∷ [])) (sym (same_Some (length rows) i is)) ∙ last_is rows r)) ∙ b)
       k (Some i) h i n refl en;
 } where
   longer : length (rows ++ r ∷ []) ≡ suc (length rows)

@@ -1,9 +1,10 @@
 -- Plans for rows, and what they make of them.
 use Rattle.std.proofs.Common.{◌≡◌, ℕ, zero, suc, List, [], ◌∷◌, ◌++◌, Option, Some, None, length, slice_get, refl, sym, ◌∙◌, ap, subst, arith}
 use Rattle.std.proofs.lemmas.List.{length-set}
+use Rattle.std.proofs.lemmas.Option.{same_Some}
 use Rattle.cs_linear.specs.declared.rows.Row.{Row}
 use Rattle.cs_linear.specs.Pivots.{IsTurned, AreTurned, ArePlanned, chosen, written, carried}
-use Rattle.cs_linear.proofs.Lists.{some_is, none_some}
+use Rattle.cs_linear.proofs.Lists.{none_some}
 
 -- the last plan first
 
@@ -48,7 +49,7 @@ carried_each : (Q : ℕ → Row → Row → Type 0) (rs : List Row) (os : List (
 carried_each Q [] os len h zero r n er en = none_some r er
 carried_each Q [] os len h (suc i) r n er en = none_some r er
 carried_each Q (x ∷ rs) [] len h i r n er en = absurd (omega arith)
-carried_each Q (x ∷ rs) (o ∷ os) len h zero r n er en = subst (Q 0 r) (some_is (chosen o r) n (ap (λ x. Some (chosen o x)) (sym (some_is x r er)) ∙ en)) (h 0 r o er refl)
+carried_each Q (x ∷ rs) (o ∷ os) len h zero r n er en = subst (Q 0 r) (same_Some (chosen o r) n (ap (λ x. Some (chosen o x)) (sym (same_Some x r er)) ∙ en)) (h 0 r o er refl)
 carried_each Q (x ∷ rs) (o ∷ os) len h (suc i) r n er en = carried_each (λ i. Q (suc i)) rs os (suc_is _ _ len) (λ i r o er eo. h (suc i) r o er eo) i r n er en
 
 pub carried_turned : (at j : ℕ) (s : Row) (rs new : List Row) (os : List (Option Row)) → ArePlanned at j s rs os → new ≡ carried rs os → AreTurned at j s rs new
@@ -56,7 +57,3 @@ carried_turned at j s rs new os h is = record {
   count = ap length is ∙ carried_count rs os;
   each = λ i r n er en. carried_each (IsTurned at j s) rs os h.count h.each i r n er (sym (ap (λ (xs : List Row). slice_get xs i) is) ∙ en);
 }
-
-pub empty_is : {A : Type 0} (xs : List A) → length xs ≡ 0 → xs ≡ []
-empty_is [] e = refl
-empty_is (x ∷ xs) e = absurd (omega arith)

@@ -2,7 +2,7 @@
 use Rattle.std.proofs.Common.{◌≡◌, ℕ, zero, suc, ◌<◌, ◌≤◌, Bool, true, false, true≢false, nat_eq, if◌then◌else◌, List, [], ◌∷◌, ◌++◌, Some, None, length, slice_get, refl, sym, ◌∙◌, ap, ap₂, subst, All, arith}
 use Rattle.std.proofs.lemmas.List.Elements.{All-append, All-cons, All-nil, All-head, All-tail, All-weaker, All-get_or}
 use Rattle.std.proofs.lemmas.Bool.{eq-eqb, eqb-true}
-use Rattle.std.proofs.lemmas.Option.{slice_get_within, get_or_from_slice_get}
+use Rattle.std.proofs.lemmas.Option.{slice_get_within, get_or_from_slice_get, same_Some}
 use Rattle.vx_frac.specs.Fractions.{Fraction, none, lowest}
 use Rattle.vx_frac.specs.Fraction.{fraction}
 use Rattle.vx_frac.specs.declared.Frac.{Frac}
@@ -22,7 +22,7 @@ use Rattle.cs_linear.specs.declared.bounds.Part.{Part}
 use Rattle.cs_linear.specs.declared.rows.Entry.{Entry}
 use Rattle.cs_linear.specs.declared.rows.Row.{Row}
 use Rattle.cs_linear.proofs.Arithmetic.{plus_comm, plus_none, none_times, plus_times, times_lowest, plus_minus}
-use Rattle.cs_linear.proofs.Lists.{some_is, here_is}
+use Rattle.cs_linear.proofs.Lists.{here_is}
 use Rattle.cs_linear.proofs.Judged.{columns_more, limits_more}
 use Rattle.cs_linear.proofs.Orders.{AtMostOf, LessOf, most_more, most_less, full_scaled, broken_scaled, met_scaled, less_in, less_out}
 
@@ -39,7 +39,7 @@ absent n (e ∷ es) j lt h =
     unmet (nat_eq e.column j) _ _ (λ is. let same = eqb-true e.column j is in omega arith) (absent (suc e.column) es j (omega arith) h.1)
 
 at_least : (n : ℕ) (es : List Entry) (i : ℕ) (e : Entry) → Ascends n es → slice_get es i ≡ Some e → n ≤ e.column
-at_least n (x ∷ es) zero e h is = subst (λ (y : Entry). n ≤ y.column) (some_is x e is) h.0
+at_least n (x ∷ es) zero e h is = subst (λ (y : Entry). n ≤ y.column) (same_Some x e is) h.0
 at_least n (x ∷ es) (suc i) e h is = let a = h.0 in let b = at_least (suc x.column) es i e h.1 is in omega arith
 at_least n [] i e h is = absurd (nothing i is) where
   nothing : (i : ℕ) → slice_get [] i ≡ Some e → ⊥
@@ -51,7 +51,7 @@ factor_is n [] i e h is = absurd (nothing i is) where
   nothing : (i : ℕ) → slice_get [] i ≡ Some e → ⊥
   nothing zero is = cc
   nothing (suc i) is = cc
-factor_is n (x ∷ es) zero e h is = subst (λ (y : Entry). fraction y.factor ≡ factor_at (x ∷ es) y.column) (some_is x e is) (here (nat_eq x.column x.column) (eq-eqb x.column x.column refl)) where
+factor_is n (x ∷ es) zero e h is = subst (λ (y : Entry). fraction y.factor ≡ factor_at (x ∷ es) y.column) (same_Some x e is) (here (nat_eq x.column x.column) (eq-eqb x.column x.column refl)) where
   here : (b : Bool) → b ≡ true → fraction x.factor ≡ (if b then plus (fraction x.factor) (factor_at es x.column) else factor_at es x.column)
   here true e = sym (ap (plus (fraction x.factor)) (absent (suc x.column) es x.column (omega arith) h.1) ∙ plus_none _ ∙ lowest_fraction x.factor)
   here false e = absurd (true≢false (sym e))

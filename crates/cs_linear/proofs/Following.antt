@@ -3,7 +3,7 @@ use Rattle.std.proofs.Common.{◌≡◌, ℕ, ◌+◌, ◌<◌, ◌≤◌, Bool,
 use Rattle.std.proofs.lemmas.List.{length-set, drop_all}
 use Rattle.std.proofs.lemmas.Bool.{eq-eqb}
 use Rattle.std.proofs.lemmas.List.Elements.{All-append, All-cons, All-nil}
-use Rattle.std.proofs.lemmas.Option.{slice_get_within, slice_get-get_or}
+use Rattle.std.proofs.lemmas.Option.{slice_get_within, slice_get-get_or, same_Some}
 use Rattle.vx_frac.specs.Fractions.{Fraction, none}
 use Rattle.vx_frac.specs.Fraction.{fraction}
 use Rattle.vx_frac.specs.declared.Frac.{Frac}
@@ -16,7 +16,7 @@ use Rattle.cs_linear.specs.Rows.{Homes, IsFree, IsTableau, AllAscend, factor_at}
 use Rattle.cs_linear.specs.Values.{value, values, moved, AreMoved, AreFollowing, IsFollowed, arrived, entries_of}
 use Rattle.cs_linear.proofs.Arithmetic.{plus_none, none_times, times_none, lowest_zero}
 use Rattle.cs_linear.proofs.Found.{unequal, choice}
-use Rattle.cs_linear.proofs.Lists.{some_is, none_some, set_here, set_others}
+use Rattle.cs_linear.proofs.Lists.{none_some, set_here, set_others}
 use Rattle.cs_linear.proofs.Sums.{ascends_out}
 use Rattle.cs_linear.proofs.Turned.{either}
 
@@ -58,7 +58,7 @@ pub all_unmoved : (rows : List Row) (homes : Homes) (j : ℕ) (by : Frac) (vs : 
 all_unmoved rows homes j by vs ms zero is = record {
   count = arrived_count ms vs;
   each = λ k home v w eh ev ew.
-      let same = some_is v w (sym ev ∙ ap (λ (ms : List Move). slice_get (arrived ms vs) k) (sym is) ∙ ew) in
+      let same = same_Some v w (sym ev ∙ ap (λ (ms : List Move). slice_get (arrived ms vs) k) (sym is) ∙ ew) in
       ap fraction (sym same) ∙ sym (unmoved rows j home k v) ∙ ap (λ y. moved rows j y home k (fraction v)) (sym (sym (lowest_fraction by) ∙ lowest_zero (fraction by) zero));
 }
 
@@ -70,16 +70,16 @@ first_moves rows homes j by vs ms m f lt is column factor = subst (λ (ms : List
   free = λ k v w fk ev ew.
       either k m.column
       (λ same.
-      ap fraction (some_is w m.value (sym ew ∙ ap (slice_get (slice_set vs m.column m.value)) same ∙ set_here vs m.column m.value (subst (λ n. n < length vs) (sym column) lt)))
+      ap fraction (same_Some w m.value (sym ew ∙ ap (slice_get (slice_set vs m.column m.value)) same ∙ set_here vs m.column m.value (subst (λ n. n < length vs) (sym column) lt)))
       ∙ factor ∙ ap (λ (o : Option Frac). plus (value o) by) (ap (slice_get vs) (sym column ∙ sym same) ∙ ev)
       ∙ sym (choice (nat_eq k j) true _ _ (eq-eqb k j (same ∙ column))))
       (λ ne.
       ap fraction (stays k v w ne ev ew) ∙ sym (choice (nat_eq k j) false _ _ (unequal k j (λ e. ne (e ∙ sym column)))));
   done = λ k i v w eh lt. absurd (omega arith);
-  ahead = λ k i v w eh le ev ew. stays k v w (λ e. none_some i (some_is None (Some i) (sym f ∙ ap (slice_get homes) (sym (e ∙ column)) ∙ eh))) ev ew;
+  ahead = λ k i v w eh le ev ew. stays k v w (λ e. none_some i (same_Some None (Some i) (sym f ∙ ap (slice_get homes) (sym (e ∙ column)) ∙ eh))) ev ew;
 } where
   stays : (k : ℕ) (v w : Frac) → ¬ (k ≡ m.column) → slice_get vs k ≡ Some v → slice_get (slice_set vs m.column m.value) k ≡ Some w → w ≡ v
-  stays k v w ne ev ew = some_is w v (sym ew ∙ set_others vs m.column k m.value ne ∙ ev)
+  stays k v w ne ev ew = same_Some w v (sym ew ∙ set_others vs m.column k m.value ne ∙ ev)
 
 -- one row more
 
@@ -107,12 +107,12 @@ module _ (rows : List Row) (homes : Homes) (j : ℕ) (by : Fraction) (vs : List 
       AreFollowing n rows homes j by vs now → AreFollowing (n + 1) rows homes j by vs (slice_set now m.column m.value)
   goes now m lt column factor h = record {
     count = length-set now m.column m.value ∙ h.count;
-    free = λ k v w fk ev ew. h.free k v w fk ev (back k w (λ e. none_some n (some_is None (Some n) (sym fk ∙ ap (slice_get homes) e ∙ home))) ew);
+    free = λ k v w fk ev ew. h.free k v w fk ev (back k w (λ e. none_some n (same_Some None (Some n) (sym fk ∙ ap (slice_get homes) e ∙ home))) ew);
     done = λ k i v w eh less ev ew.
         either i n
         (λ same.
         let at : k ≡ m.column = sym (t.owner k n r (eh ∙ ap (λ (i : ℕ). let o : Option (Option ℕ) = Some (Some i) in o) same) here) ∙ sym column in
-        ap fraction (some_is w m.value (sym ew ∙ ap (slice_get (slice_set now m.column m.value)) at ∙ set_here now m.column m.value (subst (λ l. m.column < l) (sym h.count) (subst (λ c. c < length vs) (sym column) lt))))
+        ap fraction (same_Some w m.value (sym ew ∙ ap (slice_get (slice_set now m.column m.value)) at ∙ set_here now m.column m.value (subst (λ l. m.column < l) (sym h.count) (subst (λ c. c < length vs) (sym column) lt))))
         ∙ factor ∙ ap (λ (o : Option Frac). plus (value o) (times (factor_at r.entries.items j) by)) (ap (slice_get vs) (sym column ∙ sym at) ∙ ev)
         ∙ sym (sum_at k (fraction v)) ∙ ap (λ i. moved rows j by (Some i) k (fraction v)) (sym same))
         (λ ne. h.done k i v w eh (omega arith) ev (back k w (other k i eh ne) ew));
@@ -122,7 +122,7 @@ module _ (rows : List Row) (homes : Homes) (j : ℕ) (by : Fraction) (vs : List 
     home = ap (slice_get homes) column ∙ t.basic n r here
 
     other : (k i : ℕ) → slice_get homes k ≡ Some (Some i) → ¬ (i ≡ n) → ¬ (k ≡ m.column)
-    other k i eh ne e = ne (some_is i n (some_is (Some i) (Some n) (sym eh ∙ ap (slice_get homes) e ∙ home)))
+    other k i eh ne e = ne (same_Some i n (same_Some (Some i) (Some n) (sym eh ∙ ap (slice_get homes) e ∙ home)))
 
     back : (k : ℕ) (w : Frac) → ¬ (k ≡ m.column) → slice_get (slice_set now m.column m.value) k ≡ Some w → slice_get now k ≡ Some w
     back k w ne ew = sym (set_others now m.column k m.value ne) ∙ ew

@@ -1,17 +1,14 @@
 -- Lists by place: one item more, one item written.
 use Rattle.std.proofs.Common.{rules, Vec, Global, vec_len, length-append, ◌≡◌, ℕ, zero, suc, ◌+◌, ◌<◌, List, [], ◌∷◌, ◌++◌, Some, None, length, slice_get, slice_set, get_or, refl, sym, ◌∙◌, ap, subst, arith, ◌≤◌}
-use Rattle.std.proofs.lemmas.Option.{slice_get-get_or, slice_get_read, slice_get_past}
+use Rattle.std.proofs.lemmas.Option.{slice_get-get_or, slice_get_read, slice_get_past, same_Some}
 use Rattle.std.proofs.lemmas.List.{get_or-set_same, length-set}
-
-pub some_is : {A : Type 0} (x y : A) → Some x ≡ Some y → x ≡ y
-some_is x y e = cc
 
 pub none_some : {A : Type 0} {X : Type 0} (x : A) → None ≡ Some x → X
 none_some x e = absurd cc
 
 -- what holds of each item by its place holds with one item more
 pub each_more : {A : Type 0} (P : ℕ → A → Type 0) (xs : List A) (x : A) → ((k : ℕ) (n : A) → slice_get xs k ≡ Some n → P k n) → P (length xs) x → (k : ℕ) (n : A) → slice_get (xs ++ x ∷ []) k ≡ Some n → P k n
-each_more P [] x h p zero n e = subst (P 0) (some_is x n e) p
+each_more P [] x h p zero n e = subst (P 0) (same_Some x n e) p
 each_more P [] x h p (suc k) n e = none_some n e
 each_more P (y ∷ ys) x h p zero n e = h 0 n e
 each_more P (y ∷ ys) x h p (suc k) n e = each_more (λ k n. P (suc k) n) ys x (λ k n e. h (suc k) n e) p k n e
@@ -55,4 +52,4 @@ pub past_none : {A : Type 0} {X : Type 0} (xs : List A) (i : ℕ) (x : A) → le
 past_none xs i x le e = none_some x (sym (slice_get_past xs i le) ∙ e)
 
 pub here_is : {A : Type 0} (xs : List A) (i : ℕ) (d x : A) → i < length xs → slice_get xs i ≡ Some x → get_or xs i d ≡ x
-here_is xs i d x lt e = some_is (get_or xs i d) x (sym (slice_get-get_or xs i d lt) ∙ e)
+here_is xs i d x lt e = same_Some (get_or xs i d) x (sym (slice_get-get_or xs i d lt) ∙ e)

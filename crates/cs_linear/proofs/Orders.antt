@@ -9,6 +9,7 @@ use Rattle.cs_linear.specs.declared.bounds.Side.{Side}
 use Rattle.cs_linear.specs.declared.bounds.Side.TheVariants.{AtLeast, AtMost}
 use Rattle.std.specs.Prelude.{int_lt}
 use Rattle.std.proofs.lemmas.Int.{ints}
+use Rattle.std.proofs.lemmas.Bool.{not-false}
 use Rattle.cs_linear.proofs.Arithmetic.{plus_comm, plus_left, plus_none, plus_times, none_times, plus_opposite, lowest_of_times}
 
 -- below or tied, in the number and then in the multiple
@@ -29,10 +30,7 @@ not_le_below {a = a} {b = b} h k = both (at_most b a) (sym (below_is a b) ∙ h)
   both false e f = true≢false (sym f)
 
 pub le_not_below : (a b : Fraction) → is_below a b ≡ false → Le b a
-le_not_below a b h = record { holds = is_true (at_most b a) (sym (below_is a b) ∙ h) } where
-  is_true : (t : Bool) → not t ≡ false → t ≡ true
-  is_true true e = refl
-  is_true false e = absurd (true≢false e)
+le_not_below a b h = record { holds = not-false (at_most b a) (sym (below_is a b) ∙ h) }
 
 le_below : (a b : Fraction) → is_below a b ≡ true → Le a b
 le_below a b h = by_total (at_most a b) refl where

@@ -1,5 +1,5 @@
 -- Sums of columns: their factors, their rests, and how two are merged.
-use Rattle.std.proofs.Common.{◌≡◌, ℕ, zero, suc, ◌+◌, ◌<◌, ◌≤◌, Bool, true, false, true≢false, ◌&&◌, nat_eq, if◌then◌else◌, List, [], ◌∷◌, ◌++◌, Some, length, drop, get_or, slice_get, refl, sym, ◌∙◌, ap, ap₂, subst, arith, add-one, drop-cons, pos, append_assoc}
+use Rattle.std.proofs.Common.{◌≡◌, ℕ, zero, suc, ◌+◌, ◌<◌, ◌≤◌, Bool, true, false, ◌&&◌, nat_eq, if◌then◌else◌, List, [], ◌∷◌, ◌++◌, Some, length, drop, get_or, slice_get, refl, sym, ◌∙◌, ap, ap₂, subst, arith, add-one, drop-cons, pos, append_assoc}
 use Rattle.vx_frac.specs.Fractions.{Fraction, none, lowest}
 use Rattle.vx_frac.specs.Fraction.{fraction}
 use Rattle.vx_frac.proofs.Reduced.{lowest_fraction}
@@ -7,7 +7,7 @@ use Rattle.cs_linear.specs.Numbers.{plus, times}
 use Rattle.vx_frac.specs.declared.Frac.{Frac}
 use Rattle.std.proofs.lemmas.List.Elements.{All-append, All-get_or, All-cons, All-nil, All-head, All-tail, All-weaker}
 use Rattle.std.proofs.lemmas.List.{drop_all, append-nil}
-use Rattle.std.proofs.lemmas.Bool.{ltb-true, lt-ltb}
+use Rattle.std.proofs.lemmas.Bool.{ltb-true, lt-ltb, and_parts, and_from}
 use Rattle.std.proofs.lemmas.Option.{slice_get_read}
 use Rattle.cs_linear.specs.declared.rows.First.{First}
 use Rattle.cs_linear.specs.declared.rows.Entry.{Entry}
@@ -181,21 +181,13 @@ pub rest_ascends : (n : ℕ) (es : List Entry) (j : ℕ) → Ascends n es → As
 rest_ascends n [] j h = tt
 rest_ascends n (e ∷ es) j h = ascends_by (nat_eq e.column j) n e (rest_of es j) h.0 (rest_ascends (suc e.column) es j h.1)
 
-and_parts : (a b : Bool) → (a && b) ≡ true → (a ≡ true) × (b ≡ true)
-and_parts true b h = (refl, h)
-and_parts false b h = absurd (true≢false (sym h))
-
-and_both : (a b : Bool) → a ≡ true → b ≡ true → (a && b) ≡ true
-and_both true b e f = f
-and_both false b e f = e
-
 pub ascends_out : (n : ℕ) (es : List Entry) → ascends n es ≡ true → Ascends n es
 ascends_out n [] h = tt
 ascends_out n (e ∷ es) h = (let lt = ltb-true n (suc e.column) (and_parts _ _ h).0 in omega arith, ascends_out (suc e.column) es (and_parts _ _ h).1)
 
 pub ascends_in : (n : ℕ) (es : List Entry) → Ascends n es → ascends n es ≡ true
 ascends_in n [] h = refl
-ascends_in n (e ∷ es) h = and_both _ _ (lt-ltb n (suc e.column) (let le = h.0 in omega arith)) (ascends_in (suc e.column) es h.1)
+ascends_in n (e ∷ es) h = and_from _ _ (lt-ltb n (suc e.column) (let le = h.0 in omega arith)) (ascends_in (suc e.column) es h.1)
 
 pub none_ascends : (es : List Entry) → es ≡ [] → Ascends 0 es
 none_ascends es is = subst (Ascends 0) (sym is) tt

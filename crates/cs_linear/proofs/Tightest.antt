@@ -2,7 +2,7 @@
 use Rattle.std.proofs.Common.{Vec, Global, ◌≡◌, ℕ, ◌+◌, ◌<◌, ◌≤◌, Bool, true, false, true≢false, List, [], ◌∷◌, Option, Some, None, IfSome, IfNone, length, slice_get, slice_set, get_or, refl, sym, ◌∙◌, ap, ap₂, subst, inl, inr, arith, All}
 use Rattle.std.proofs.lemmas.List.{length-set}
 use Rattle.std.proofs.lemmas.List.Elements.{All-head, All-tail}
-use Rattle.std.proofs.lemmas.Option.{slice_get_within, slice_get-get_or}
+use Rattle.std.proofs.lemmas.Option.{slice_get_within, slice_get-get_or, same_Some}
 use Rattle.vx_frac.specs.declared.Frac.{Frac}
 use Rattle.cs_linear.specs.declared.bounds.Side.{Side}
 use Rattle.cs_linear.specs.declared.bounds.Bound.{Bound}
@@ -16,7 +16,7 @@ use Rattle.cs_linear.specs.Values.{value, values, arrived}
 use Rattle.cs_linear.specs.Contradictions.{IsTable, IsOf, IsAmong, Meets, is_broken, amount_at}
 use Rattle.cs_linear.specs.Limits.{is_tighter, IsEntered, IsTold, AreTold, IsWithinAt, IsClear, IsBeyond, ArePending, marked, AreMarked}
 use Rattle.cs_linear.proofs.Conflicts.{among_known}
-use Rattle.cs_linear.proofs.Lists.{some_is, set_here, set_others}
+use Rattle.cs_linear.proofs.Lists.{set_here, set_others}
 use Rattle.cs_linear.proofs.Orders.{tells_lesser, tells_greater}
 use Rattle.cs_linear.proofs.Turned.{either}
 
@@ -24,7 +24,7 @@ written_table : (side : Side) (bounds : List Bound) (old : List (Option Bound)) 
 written_table side bounds old b among lt same t k x e =
     either k b.column
     (λ here.
-    let is : b ≡ x = some_is b x (some_is (Some b) (Some x) (sym (set_here old b.column (Some b) lt) ∙ ap (slice_get (slice_set old b.column (Some b))) (sym here) ∙ e)) in
+    let is : b ≡ x = same_Some b x (same_Some (Some b) (Some x) (sym (set_here old b.column (Some b) lt) ∙ ap (slice_get (slice_set old b.column (Some b))) (sym here) ∙ e)) in
     subst (IsOf side bounds k) is record { among = among; column = sym here; same_side = same })
     (λ ne. t k x (sym (set_others old b.column k (Some b) ne) ∙ e))
 
@@ -54,7 +54,7 @@ pub entered_told : (side : Side) (bounds : List Bound) (old new : List (Option B
 entered_told side bounds old new i b at lt t (inl (e, f)) h k x less ex sx =
     subst (λ (os : List (Option Bound)). IsTold os x) (sym e)
     (either k i
-    (λ same. stood x (some_is b x (sym at ∙ ap (slice_get bounds) (sym same) ∙ ex)) sx)
+    (λ same. stood x (same_Some b x (sym at ∙ ap (slice_get bounds) (sym same) ∙ ex)) sx)
     (λ ne. h k x (omega arith) ex sx))
   where
     told : (o : Option Bound) → b.side ≡ side → slice_get old b.column ≡ Some o → is_tighter b o ≡ false → IsTold old b
@@ -69,7 +69,7 @@ entered_told side bounds old new i b at lt t (inl (e, f)) h k x less ex sx =
 entered_told side bounds old new i b at lt t (inr (s, e, f)) h k x less ex sx =
     subst (λ (os : List (Option Bound)). IsTold os x) (sym e)
     (either k i
-    (λ same. subst (IsTold (slice_set old b.column (Some b))) (some_is b x (sym at ∙ ap (slice_get bounds) (sym same) ∙ ex)) record { limit = b; here = set_here old b.column (Some b) lt; tells = λ v u. u })
+    (λ same. subst (IsTold (slice_set old b.column (Some b))) (same_Some b x (sym at ∙ ap (slice_get bounds) (sym same) ∙ ex)) record { limit = b; here = set_here old b.column (Some b) lt; tells = λ v u. u })
     (λ ne. stays x (h k x (omega arith) ex sx)))
   where
     stays : (x : Bound) → IsTold old x → IsTold (slice_set old b.column (Some b)) x
@@ -118,7 +118,7 @@ marked_keeps (m ∷ ms) vs marks h k e =
     let lt = All-head (λ (m : Move). m.column < length marks) m ms h in
     let rest = subst (λ n. All (λ (m : Move). m.column < n) ms) (sym (length-set marks m.column true)) (All-tail (λ (m : Move). m.column < length marks) m ms h) in
     let r = marked_keeps ms (slice_set vs m.column m.value) (slice_set marks m.column true) rest k e in
-    let ne : ¬ (k ≡ m.column) = λ same. true≢false (some_is true false (sym (set_here marks m.column true lt) ∙ ap (slice_get (slice_set marks m.column true)) (sym same) ∙ r.0)) in
+    let ne : ¬ (k ≡ m.column) = λ same. true≢false (same_Some true false (sym (set_here marks m.column true lt) ∙ ap (slice_get (slice_set marks m.column true)) (sym same) ∙ r.0)) in
     (sym (set_others marks m.column k true ne) ∙ r.0, r.1 ∙ set_others vs m.column k m.value ne)
 
 pub marked_count : (ms : List Move) (marks : List Bool) → length (marked ms marks) ≡ length marks

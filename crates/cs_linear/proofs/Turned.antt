@@ -1,12 +1,12 @@
 -- What a pivot keeps: the solutions of the rows, and that sums are over free columns.
 use Rattle.std.proofs.Common.{◌≡◌, ℕ, ◌<◌, true, List, Some, None, length, slice_get, get_or, refl, sym, ◌∙◌, ap, subst, ◌⊎◌, inl, inr}
-use Rattle.std.proofs.lemmas.Option.{slice_get_within, slice_get-get_or}
+use Rattle.std.proofs.lemmas.Option.{slice_get_within, slice_get-get_or, same_Some}
 use Rattle.std.proofs.lemmas.Bool.Decides.{eqb_tells}
 use Rattle.vx_frac.specs.Fractions.{lowest}
 use Rattle.cs_linear.specs.declared.rows.Row.{Row}
 use Rattle.cs_linear.specs.Rows.{Assignment, Homes, AreFree, AreAlike, Ascends, ascends, IsFree, IsTableau, Holds, Solves, total}
 use Rattle.cs_linear.specs.Pivots.{IsSolved, IsReplaced, AreTurned, IsRehomed}
-use Rattle.cs_linear.proofs.Lists.{some_is, none_some}
+use Rattle.cs_linear.proofs.Lists.{none_some}
 use Rattle.cs_linear.proofs.Pivots.{rest_free}
 use Rattle.cs_linear.proofs.Sums.{ascends_in, ascends_out}
 
@@ -45,7 +45,7 @@ turned_back rows new at j r s is so tu a h i old er =
     let em = there new rows at r (sym tu.count) is in
     let here = (tu.each at r m is em).here refl in
     let hs = same_holds a m s (sym here.0) (sym here.1) (h at m em) in
-    either i at (λ e. subst (Holds a) (some_is r old (sym is ∙ ap (slice_get rows) (sym e) ∙ er)) (so.back a hs))
+    either i at (λ e. subst (Holds a) (same_Some r old (sym is ∙ ap (slice_get rows) (sym e) ∙ er)) (so.back a hs))
     (λ ne. replaced_held a old s n j ((tu.each i old n er en).others ne) hs (h i n en))
 
 pub turned_alike : (originals rows new : List Row) (at j : ℕ) (r s : Row) → slice_get rows at ≡ Some r → IsSolved r j s → AreTurned at j s rows new → AreAlike originals rows → AreAlike originals new
@@ -55,7 +55,7 @@ turned_alike originals rows new at j r s is so tu h a =
 -- free and basic columns
 
 free_not_basic : (homes : Homes) (k j at : ℕ) → IsFree homes j → slice_get homes k ≡ Some (Some at) → ¬ (k ≡ j)
-free_not_basic homes k j at f b e = none_some at (some_is None (Some at) (sym f ∙ ap (slice_get homes) (sym e) ∙ b))
+free_not_basic homes k j at f b e = none_some at (same_Some None (Some at) (sym f ∙ ap (slice_get homes) (sym e) ∙ b))
 
 turned_ascends : (rows new : List Row) (homes : Homes) (at j : ℕ) (r s : Row) → IsTableau rows homes → slice_get rows at ≡ Some r → IsSolved r j s → AreTurned at j s rows new → (i : ℕ) (n : Row) → slice_get new i ≡ Some n → ascends 0 n.entries.items ≡ true
 turned_ascends rows new homes at j r s t is so tu i n en =
@@ -69,9 +69,9 @@ turned_ascends rows new homes at j r s t is so tu i n en =
 turned_home : (homes other : Homes) (at b j : ℕ) → ¬ (b ≡ j) → IsRehomed homes b j at other → (k i : ℕ) → slice_get other k ≡ Some (Some i) → ((k ≡ j) × (i ≡ at)) ⊎ (¬ (k ≡ b) × (slice_get homes k ≡ Some (Some i)))
 turned_home homes other at b j ne re k i h =
     either k b
-    (λ e. none_some i (some_is None (Some i) (sym (re.left ne) ∙ ap (slice_get other) (sym e) ∙ h)))
+    (λ e. none_some i (same_Some None (Some i) (sym (re.left ne) ∙ ap (slice_get other) (sym e) ∙ h)))
     (λ nb. either k j
-    (λ e. inl (e, some_is i at (some_is (Some i) (Some at) (sym h ∙ ap (slice_get other) e ∙ re.entered))))
+    (λ e. inl (e, same_Some i at (same_Some (Some i) (Some at) (sym h ∙ ap (slice_get other) e ∙ re.entered))))
     (λ nj. inr (nb, sym (re.others k nb nj) ∙ h)))
 
 pub turned_tableau : (rows new : List Row) (homes other : Homes) (at j : ℕ) (r s : Row) → IsTableau rows homes → slice_get rows at ≡ Some r → IsFree homes j → IsSolved r j s → AreTurned at j s rows new → IsRehomed homes r.basic j at other → IsTableau new other
@@ -100,7 +100,7 @@ turned_tableau rows new homes other at j r s t is fj so tu re = record {
       let k = tu.each i old n er en in
       either i at
       (λ e. ap (slice_get other) ((k.here e).0 ∙ so.basic) ∙ re.entered ∙ ap (λ i. Some (Some i)) (sym e))
-      (λ ne. ap (slice_get other) (k.others ne).basic ∙ re.others old.basic (λ e. ne (some_is i at (some_is (Some i) (Some at) (sym (t.basic i old er) ∙ ap (slice_get homes) e ∙ t.basic at r is)))) (free_not_basic homes old.basic j i fj (t.basic i old er)) ∙ t.basic i old er);
+      (λ ne. ap (slice_get other) (k.others ne).basic ∙ re.others old.basic (λ e. ne (same_Some i at (same_Some (Some i) (Some at) (sym (t.basic i old er) ∙ ap (slice_get homes) e ∙ t.basic at r is)))) (free_not_basic homes old.basic j i fj (t.basic i old er)) ∙ t.basic i old er);
 } where
   apart : ¬ (r.basic ≡ j)
   apart = free_not_basic homes r.basic j at fj (t.basic at r is)

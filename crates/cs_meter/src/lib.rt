@@ -1,9 +1,14 @@
-//! The units of a check.
+//! The limits of a check: its units, and calls of fractions that leave 128 bits.
 #![tactic(auto)]
+
+mod calls;
+mod laws;
 
 ghost use Rattle.std.specs.Prelude.{◌≡◌, ◌+◌, ◌<◌, ◌≤◌, ◌↔◌, IsOk, OnOk, OnErr};
 ghost use Rattle.cs_meter.specs.Units.{limit};
 
+pub use calls::leaves;
+pub use laws::over_is_of_large_numbers;
 use std::alloc::AllocError;
 
 /// How many units a check may spend.

@@ -8,7 +8,7 @@ use Rattle.vx_frac.specs.declared.Over.{Over}
 use Rattle.vx_terms.specs.Sorts.{Operator, Add, Subtract, Multiply, Div, Mod}
 use Rattle.vx_terms.specs.Terms.{Term, Apply, Not, Binary, Ite, AllOf, SomeOf, Terms, NoTerms, MoreTerms}
 use Rattle.vx_terms.specs.Interpretations.{Element, RealElement, as_int, as_fraction, Interpretation, value}
-use Rattle.cs_calls.specs.Calls.{call_fits}
+use Rattle.cs_meter.specs.Calls.{call_fits}
 use Rattle.cs_model.specs.declared.valuing.Stop.{Stop}
 use Rattle.cs_model.specs.declared.valuing.Stop.TheVariants as stops
 

@@ -1,6 +1,6 @@
 -- Terms as they stand in some others, the first one last.
 use Rattle.std.proofs.Common.{◌≡◌, ℕ, suc, ◌+◌, ◌-◌, List, [], ◌∷◌, ◌++◌, length, reverse, take, drop, refl, sym, ◌∙◌, ap, ap₂, arith, append_assoc, append-nil}
-use Rattle.std.proofs.lemmas.List.{reverse-append, reverse-reverse, length-reverse, length-append, map-append, length-map, take-map, drop-map}
+use Rattle.std.proofs.lemmas.List.{reverse-append, reverse-reverse, length-reverse, length-append, map-append, length-map, take-map, drop-map, same_from_push}
 use Rattle.vx_terms.specs.Terms.{Term, Truth, Number, Part, Constant, Apply, Not, Binary, Ite, AllOf, SomeOf, Terms, NoTerms, MoreTerms}
 use Rattle.cs_certificate.specs.Terms.{items, parts, subterms, all_subterms, parts_of}
 use Rattle.cs_numbers.specs.Numbering.{added}
@@ -45,12 +45,6 @@ no_end : {A : Type 0} (xs : List A) (x : A) → [] ≡ xs ++ x ∷ [] → ⊥
 no_end [] x e = cc
 no_end (y ∷ xs) x e = cc
 
-last_is : {A : Type 0} (xs ys : List A) (x y : A) → xs ++ x ∷ [] ≡ ys ++ y ∷ [] → (xs ≡ ys) × (x ≡ y)
-last_is [] [] x y e = (refl, (first_of e).0)
-last_is [] (b ∷ ys) x y e = absurd (no_end ys y (first_of e).1)
-last_is (a ∷ xs) [] x y e = absurd (no_end xs x (sym (first_of e).1))
-last_is (a ∷ xs) (b ∷ ys) x y e = let h = last_is xs ys x y (first_of e).1 in (ap₂ (λ z zs. z ∷ zs) (first_of e).0 h.0, h.1)
-
 turned : (t : Term) (us : List Term) → reverse (subterms t ++ us) ≡ (reverse us ++ reverse (inner t)) ++ t ∷ []
 turned t us =
     reverse-append (subterms t) us ∙ ap (λ xs. reverse us ++ reverse xs) (first_inner t)
@@ -67,7 +61,7 @@ parted us before l f e = go f.of f.is
     go : (ts : List Term) → us ≡ reverse (parts_of ts) → Parted before l
     go [] is = absurd (no_end before l (sym is ∙ e))
     go (t ∷ ts) is =
-        let h = last_is before (reverse (parts_of ts) ++ reverse (inner t)) l t (sym e ∙ is ∙ turned t (parts_of ts)) in
+        let h = same_from_push before (reverse (parts_of ts) ++ reverse (inner t)) l t (sym e ∙ is ∙ turned t (parts_of ts)) in
         record { others = ts; is = h.0 ∙ ap (λ x. reverse (parts_of ts) ++ reverse (inner x)) (sym h.1) }
 
 take_front : {A : Type 0} (xs ys : List A) → take (length xs) (xs ++ ys) ≡ xs
@@ -92,7 +86,7 @@ front_is before others ts l n e at o = o ∙ ap₂ take (begins before ts l n e 
 first_root : (us before others : List Term) (l : Term) (n : ℕ) → us ≡ before ++ l ∷ [] → n ≡ length before - length (inner l) → others ≡ take n before → (ts : List Term) → us ≡ reverse (parts_of ts) → IsFirst ts l others
 first_root us before others l n e at o [] is = absurd (no_end before l (sym is ∙ e))
 first_root us before others l n e at o (t ∷ ts) is =
-    let h = last_is before (reverse (parts_of ts) ++ reverse (inner t)) l t (sym e ∙ is ∙ turned t (parts_of ts)) in
+    let h = same_from_push before (reverse (parts_of ts) ++ reverse (inner t)) l t (sym e ∙ is ∙ turned t (parts_of ts)) in
     record {
       others = ts;
       first = ap (λ x. x ∷ ts) (sym h.1);

@@ -2,9 +2,11 @@
 use Rattle.std.proofs.Common.{◌≡◌, ℕ, zero, suc, Bool, true, false, ◌||◌, ◌&&◌, List, [], ◌∷◌, ◌++◌, length, Vec, Global, slice_get, slice_set, is_some, Option, Some, None, ◌⊎◌, inl, inr, refl, sym, ◌∙◌, ap}
 use Rattle.std.specs.Prelude.{if◌then◌else◌, IfSome}
 use Rattle.std.specs.Option.{option_map}
+use Rattle.std.proofs.lemmas.Bool.{and_parts, and_from}
+use Rattle.std.proofs.lemmas.Option.{same_Some}
 use Rattle.vx_terms.specs.Terms.{Term, Truth, Number, Part, Constant, Apply, Not, Binary, Ite, AllOf, SomeOf, same}
 use Rattle.cs_certificate.specs.Terms.{parts, subterms}
-use Rattle.cs_nodes.specs.Steps.{◌>>=◌}
+use Rattle.cs_certificate.specs.Steps.{◌>>=◌}
 use Rattle.cs_certificate.specs.Certificate.{Contains}
 use Rattle.cs_numbers.specs.Numbering.{place, places, has, with_one, added}
 use Rattle.cs_numbers.specs.Inner.{inner}
@@ -23,17 +25,9 @@ has_more (x ∷ terms) ts u h = go (same u x) h (has_more terms ts u)
     go true h k = refl
     go false h k = k h
 
-both : (a b : Bool) → (a && b) ≡ true → (a ≡ true) × (b ≡ true)
-both true b e = (refl, e)
-both false b e = cc
-
-and_true : (a b : Bool) → a ≡ true → b ≡ true → (a && b) ≡ true
-and_true true b e f = f
-and_true false b e f = e
-
 all_more : (terms ts us : List Term) → has_all terms us ≡ true → has_all (terms ++ ts) us ≡ true
 all_more terms ts [] h = refl
-all_more terms ts (u ∷ us) h = let k = both (has terms u) (has_all terms us) h in and_true _ _ (has_more terms ts u k.0) (all_more terms ts us k.1)
+all_more terms ts (u ∷ us) h = let k = and_parts (has terms u) (has_all terms us) h in and_from _ _ (has_more terms ts u k.0) (all_more terms ts us k.1)
 
 at_more : (terms ts : List Term) (n : ℕ) (t : Term) → slice_get terms n ≡ Some t → slice_get (terms ++ ts) n ≡ Some t
 at_more [] ts n t e = cc
@@ -135,12 +129,9 @@ kept_longer terms kept k = record { each = λ n ns e. k.each n ns (room kept n n
 pub kept_more : (terms ts : List Term) (kept : List (Option (Vec ℕ Global))) → AreKept terms kept → AreKept (terms ++ ts) kept
 kept_more terms ts kept k = record { each = λ n ns e. kept_is (terms ++ ts) n ns.items (kept_later terms ts n ns.items (is_kept terms n ns.items (k.each n ns e))) }
 
-some_is : {A : Type 0} {x y : A} → Some x ≡ Some y → x ≡ y
-some_is e = cc
-
 written : (kept : List (Option (Vec ℕ Global))) (number n : ℕ) (ms ns : Vec ℕ Global) → slice_get (slice_set kept number (Some ms)) n ≡ Some (Some ns) → ((number ≡ n) × (ms ≡ ns)) ⊎ (slice_get kept n ≡ Some (Some ns))
 written [] number n ms ns e = inr e
-written (x ∷ kept) zero zero ms ns e = inl (refl, some_is (some_is e))
+written (x ∷ kept) zero zero ms ns e = inl (refl, same_Some _ _ (same_Some _ _ e))
 written (x ∷ kept) zero (suc n) ms ns e = inr e
 written (x ∷ kept) (suc number) zero ms ns e = inr e
 written (x ∷ kept) (suc number) (suc n) ms ns e = elim (written kept number n ms ns e) [ inl h ↦ inl (ap suc h.0, h.1) | inr h ↦ inr h ]
@@ -182,7 +173,7 @@ opened (Some x) P e h = (x, h)
 
 added_known : (terms ts : List Term) → has_all terms ts ≡ true → added terms ts ≡ terms
 added_known terms [] h = refl
-added_known terms (t ∷ ts) h = let k = both (has terms t) (has_all terms ts) h in ap (λ b. added (if b then terms else terms ++ t ∷ []) ts) k.0 ∙ added_known terms ts k.1
+added_known terms (t ∷ ts) h = let k = and_parts (has terms t) (has_all terms ts) h in ap (λ b. added (if b then terms else terms ++ t ∷ []) ts) k.0 ∙ added_known terms ts k.1
 
 pub first_inner : (t : Term) → subterms t ≡ t ∷ inner t
 first_inner (Truth b) = refl
@@ -202,14 +193,14 @@ added_inner old all t e = ap (λ us. added us (inner t)) e ∙ sym (ap (added ol
 pub known : (old all : List Term) (t : Term) (n : ℕ) (ns : List ℕ) → all ≡ with_one old t → place all t ≡ Some n → parts_at all n ≡ Some ns → all ≡ added old (subterms t)
 known old all t n ns e at g =
     let k = is_kept all n ns g in
-    let is : k.of ≡ t = some_is (sym k.there ∙ place_at all t n at) in
+    let is : k.of ≡ t = same_Some _ _ (sym k.there ∙ place_at all t n at) in
     let h : has_all all (t ∷ inner t) ≡ true = ap (has_all all) (sym (first_inner t) ∙ ap subterms (sym is)) ∙ k.whole in
-    sym (added_known all (inner t) (both (has all t) (has_all all (inner t)) h).1) ∙ added_inner old all t e
+    sym (added_known all (inner t) (and_parts (has all t) (has_all all (inner t)) h).1) ∙ added_inner old all t e
 
 -- ---- what is kept when a term's parts were added
 all_in : (terms ts : List Term) → ((u : Term) → Contains ts u → has terms u ≡ true) → has_all terms ts ≡ true
 all_in terms [] h = refl
-all_in terms (t ∷ ts) h = and_true _ _ (h t (0, refl)) (all_in terms ts (λ u c. h u (suc c.0, c.1)))
+all_in terms (t ∷ ts) h = and_from _ _ (h t (0, refl)) (all_in terms ts (λ u c. h u (suc c.0, c.1)))
 
 pub placed_now : (all end : List Term) (t : Term) (n : ℕ) → place all t ≡ Some n → end ≡ added all (inner t) → place end t ≡ Some n
 placed_now all end t n at f = ap (λ us. place us t) f ∙ place_added all (inner t) t n at
@@ -228,5 +219,5 @@ kept_now old all end t n ns e at f are =
 pub kept_parts : (terms : List Term) (t : Term) (n : ℕ) (ns : List ℕ) → slice_get terms n ≡ Some t → parts_at terms n ≡ Some ns → places terms (parts t) ≡ Some ns
 kept_parts terms t n ns at e =
     let k = is_kept terms n ns e in
-    let is : k.of ≡ t = some_is (sym k.there ∙ at) in
+    let is : k.of ≡ t = same_Some _ _ (sym k.there ∙ at) in
     ap (λ u. places terms (parts u)) (sym is) ∙ k.are

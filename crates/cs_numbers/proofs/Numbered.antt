@@ -1,6 +1,7 @@
 -- Each numbered term has one number, and so have its parts.
 use Rattle.std.proofs.Common.{◌≡◌, ℕ, zero, suc, Bool, true, false, ◌||◌, List, [], ◌∷◌, ◌++◌, length, Some, ◌⊎◌, inl, inr, refl, sym, ◌∙◌, ap, subst}
 use Rattle.std.specs.Prelude.{if◌then◌else◌}
+use Rattle.std.proofs.lemmas.Option.{same_Some}
 use Rattle.vx_terms.specs.Sorts.{Sort}
 use Rattle.vx_terms.specs.Terms.{Term, Truth, Number, Part, Constant, Apply, Not, Binary, Ite, AllOf, SomeOf, Terms, NoTerms, MoreTerms, same}
 use Rattle.vx_terms.specs.Formed.{Formed, truth, number, part, constant, applies, nots, binary, ites, all_of, some_of, FormedAll, no_terms, more_terms, FormedBools, no_bools, more_bools}
@@ -11,9 +12,6 @@ use Rattle.cs_certificate.specs.Certificate.{At, Contains}
 use Rattle.cs_numbers.specs.Numbering.{has, with_one, added}
 use Rattle.cs_numbers.specs.Laws.{IsSorted}
 use Rattle.cs_numbers.proofs.Itself.{term_same}
-
-some_is : {A : Type 0} {x y : A} → Some x ≡ Some y → x ≡ y
-some_is e = cc
 
 -- ---- places of a list
 pub in_left : {A : Type 0} (xs ys : List A) (x : A) → Contains xs x → Contains (xs ++ ys) x
@@ -32,7 +30,7 @@ in_either (z ∷ zs) ys x (suc n, e) = elim (in_either zs ys x (n, e)) [ inl h �
 
 -- a place of the longer list
 at_end : {A : Type 0} (xs : List A) (y x : A) (k : ℕ) → At (xs ++ y ∷ []) k x → At xs k x ⊎ ((k ≡ length xs) × (x ≡ y))
-at_end [] y x zero e = inr (refl, sym (some_is e))
+at_end [] y x zero e = inr (refl, sym (same_Some _ _ e))
 at_end [] y x (suc k) e = cc
 at_end (z ∷ zs) y x zero e = inl e
 at_end (z ∷ zs) y x (suc k) e = elim (at_end zs y x k e) [ inl h ↦ inl h | inr h ↦ inr (ap suc h.0, h.1) ]
@@ -43,7 +41,7 @@ pub record Distinct (terms : List Term) : Type 0 where
 
 pub has_in : (terms : List Term) (t : Term) → Contains terms t → has terms t ≡ true
 has_in [] t (n, e) = cc
-has_in (u ∷ us) t (zero, e) = ap (λ b. b || has us t) (ap (same t) (some_is e) ∙ term_same t)
+has_in (u ∷ us) t (zero, e) = ap (λ b. b || has us t) (ap (same t) (same_Some _ _ e) ∙ term_same t)
 has_in (u ∷ us) t (suc n, e) = go (same t u) (has_in us t (n, e))
   where
     go : (b : Bool) → has us t ≡ true → (b || has us t) ≡ true
@@ -102,7 +100,7 @@ from_one : (terms : List Term) (t u : Term) → Contains (with_one terms t) u �
 from_one terms t u h = go (has terms t) h
   where
     single : Contains (t ∷ []) u → u ≡ t
-    single (zero, e) = sym (some_is e)
+    single (zero, e) = sym (same_Some _ _ e)
     single (suc n, e) = cc
 
     go : (b : Bool) → Contains (if b then terms else terms ++ t ∷ []) u → Contains terms u ⊎ (u ≡ t)
@@ -115,7 +113,7 @@ kept terms (t ∷ ts) u h = kept (with_one terms t) ts u (kept_one terms t u h)
 
 pub new : (terms ts : List Term) (u : Term) → Contains ts u → Contains (added terms ts) u
 new terms [] u (n, e) = cc
-new terms (t ∷ ts) u (zero, e) = kept (with_one terms t) ts u (subst (Contains (with_one terms t)) (some_is e) (new_one terms t))
+new terms (t ∷ ts) u (zero, e) = kept (with_one terms t) ts u (subst (Contains (with_one terms t)) (same_Some _ _ e) (new_one terms t))
 new terms (t ∷ ts) u (suc n, e) = new (with_one terms t) ts u (n, e)
 
 pub from_added : (terms ts : List Term) (u : Term) → Contains (added terms ts) u → Contains terms u ⊎ Contains ts u
@@ -140,7 +138,7 @@ first_in (SomeOf ts) = (0, refl)
 
 item_in : (ts : Terms) (p : Term) → Contains (items ts) p → Contains (all_subterms ts) p
 item_in NoTerms p (n, e) = cc
-item_in (MoreTerms t ts) p (zero, e) = in_left (subterms t) (all_subterms ts) p (subst (Contains (subterms t)) (some_is e) (first_in t))
+item_in (MoreTerms t ts) p (zero, e) = in_left (subterms t) (all_subterms ts) p (subst (Contains (subterms t)) (same_Some _ _ e) (first_in t))
 item_in (MoreTerms t ts) p (suc n, e) = in_right (subterms t) (all_subterms ts) p (item_in ts p (n, e))
 
 -- behind the first
@@ -148,41 +146,41 @@ later : {A : Type 0} (y : A) (xs : List A) (x : A) → Contains xs x → Contain
 later y xs x h = (suc h.0, h.1)
 
 one_in : (t p : Term) → Contains (t ∷ []) p → Contains (subterms t) p
-one_in t p (zero, e) = subst (Contains (subterms t)) (some_is e) (first_in t)
+one_in t p (zero, e) = subst (Contains (subterms t)) (same_Some _ _ e) (first_in t)
 one_in t p (suc n, e) = cc
 
 two_in : (t v p : Term) → Contains (t ∷ v ∷ []) p → Contains (subterms t ++ subterms v) p
-two_in t v p (zero, e) = in_left (subterms t) (subterms v) p (subst (Contains (subterms t)) (some_is e) (first_in t))
+two_in t v p (zero, e) = in_left (subterms t) (subterms v) p (subst (Contains (subterms t)) (same_Some _ _ e) (first_in t))
 two_in t v p (suc n, e) = in_right (subterms t) (subterms v) p (one_in v p (n, e))
 
 three_in : (c t v p : Term) → Contains (c ∷ t ∷ v ∷ []) p → Contains (subterms c ++ (subterms t ++ subterms v)) p
-three_in c t v p (zero, e) = in_left (subterms c) (subterms t ++ subterms v) p (subst (Contains (subterms c)) (some_is e) (first_in c))
+three_in c t v p (zero, e) = in_left (subterms c) (subterms t ++ subterms v) p (subst (Contains (subterms c)) (same_Some _ _ e) (first_in c))
 three_in c t v p (suc n, e) = in_right (subterms c) (subterms t ++ subterms v) p (two_in t v p (n, e))
 
 mutual
   pub part_in : (t u p : Term) → Contains (subterms t) u → Contains (parts u) p → Contains (subterms t) p
-  part_in (Truth b) u p (zero, e) h = let k : Contains [] p = subst (λ x. Contains (parts x) p) (sym (some_is e)) h in cc
+  part_in (Truth b) u p (zero, e) h = let k : Contains [] p = subst (λ x. Contains (parts x) p) (sym (same_Some _ _ e)) h in cc
   part_in (Truth b) u p (suc n, e) h = cc
-  part_in (Number z) u p (zero, e) h = let k : Contains [] p = subst (λ x. Contains (parts x) p) (sym (some_is e)) h in cc
+  part_in (Number z) u p (zero, e) h = let k : Contains [] p = subst (λ x. Contains (parts x) p) (sym (same_Some _ _ e)) h in cc
   part_in (Number z) u p (suc n, e) h = cc
-  part_in (Part a) u p (zero, e) h = let k : Contains [] p = subst (λ x. Contains (parts x) p) (sym (some_is e)) h in cc
+  part_in (Part a) u p (zero, e) h = let k : Contains [] p = subst (λ x. Contains (parts x) p) (sym (same_Some _ _ e)) h in cc
   part_in (Part a) u p (suc n, e) h = cc
-  part_in (Constant f a) u p (zero, e) h = let k : Contains [] p = subst (λ x. Contains (parts x) p) (sym (some_is e)) h in cc
+  part_in (Constant f a) u p (zero, e) h = let k : Contains [] p = subst (λ x. Contains (parts x) p) (sym (same_Some _ _ e)) h in cc
   part_in (Constant f a) u p (suc n, e) h = cc
-  part_in (Apply f a ts) u p (zero, e) h = later _ _ p (item_in ts p (subst (λ x. Contains (parts x) p) (sym (some_is e)) h))
+  part_in (Apply f a ts) u p (zero, e) h = later _ _ p (item_in ts p (subst (λ x. Contains (parts x) p) (sym (same_Some _ _ e)) h))
   part_in (Apply f a ts) u p (suc n, e) h = later _ _ p (part_in_all ts u p (n, e) h)
-  part_in (AllOf ts) u p (zero, e) h = later _ _ p (item_in ts p (subst (λ x. Contains (parts x) p) (sym (some_is e)) h))
+  part_in (AllOf ts) u p (zero, e) h = later _ _ p (item_in ts p (subst (λ x. Contains (parts x) p) (sym (same_Some _ _ e)) h))
   part_in (AllOf ts) u p (suc n, e) h = later _ _ p (part_in_all ts u p (n, e) h)
-  part_in (SomeOf ts) u p (zero, e) h = later _ _ p (item_in ts p (subst (λ x. Contains (parts x) p) (sym (some_is e)) h))
+  part_in (SomeOf ts) u p (zero, e) h = later _ _ p (item_in ts p (subst (λ x. Contains (parts x) p) (sym (same_Some _ _ e)) h))
   part_in (SomeOf ts) u p (suc n, e) h = later _ _ p (part_in_all ts u p (n, e) h)
-  part_in (Not t) u p (zero, e) h = later _ _ p (one_in t p (subst (λ x. Contains (parts x) p) (sym (some_is e)) h))
+  part_in (Not t) u p (zero, e) h = later _ _ p (one_in t p (subst (λ x. Contains (parts x) p) (sym (same_Some _ _ e)) h))
   part_in (Not t) u p (suc n, e) h = later _ _ p (part_in t u p (n, e) h)
-  part_in (Binary o t v) u p (zero, e) h = later _ _ p (two_in t v p (subst (λ x. Contains (parts x) p) (sym (some_is e)) h))
+  part_in (Binary o t v) u p (zero, e) h = later _ _ p (two_in t v p (subst (λ x. Contains (parts x) p) (sym (same_Some _ _ e)) h))
   part_in (Binary o t v) u p (suc n, e) h = later _ _ p (elim (in_either (subterms t) (subterms v) u (n, e)) [
     | inl x ↦ in_left (subterms t) (subterms v) p (part_in t u p x h)
     | inr x ↦ in_right (subterms t) (subterms v) p (part_in v u p x h)
   ])
-  part_in (Ite c t v) u p (zero, e) h = later _ _ p (three_in c t v p (subst (λ x. Contains (parts x) p) (sym (some_is e)) h))
+  part_in (Ite c t v) u p (zero, e) h = later _ _ p (three_in c t v p (subst (λ x. Contains (parts x) p) (sym (same_Some _ _ e)) h))
   part_in (Ite c t v) u p (suc n, e) h = later _ _ p (elim (in_either (subterms c) (subterms t ++ subterms v) u (n, e)) [
     | inl x ↦ in_left (subterms c) (subterms t ++ subterms v) p (part_in c u p x h)
     | inr x ↦ in_right (subterms c) (subterms t ++ subterms v) p (elim (in_either (subterms t) (subterms v) u x) [
@@ -210,7 +208,7 @@ sorted : {n : ℕ} {t : Term} {a : Sort} → Formed n t a → IsSorted t
 sorted {n = n} {a = a} f = (a, (n, f))
 
 first_sorted : {n : ℕ} {t : Term} {a : Sort} (u : Term) → Formed n t a → Some t ≡ Some u → IsSorted u
-first_sorted {n = n} {t = t} {a = a} u f e = subst IsSorted (some_is e) (a, (n, f))
+first_sorted {n = n} {t = t} {a = a} u f e = subst IsSorted (same_Some _ _ e) (a, (n, f))
 
 mutual
   pub sorted_in : {n : ℕ} {t : Term} {a : Sort} (f : Formed n t a) (u : Term) → Contains (subterms t) u → IsSorted u

@@ -2,22 +2,20 @@
 use Rattle.std.proofs.Common.{◌≡◌, ℕ, zero, suc, Bool, true, false, cond, List, [], ◌∷◌, Option, Some, None, inl, inr, refl, sym, ◌∙◌, ap, subst, arith}
 use Rattle.std.specs.Prelude.{slice_get, if◌then◌else◌}
 use Rattle.std.specs.Option.{option_map}
+use Rattle.std.proofs.lemmas.Option.{same_Some}
 use Rattle.vx_terms.specs.Terms.{Term, same, sort_of}
 use Rattle.vx_terms.specs.Interpretations.{Each}
 use Rattle.vx_terms.proofs.Same.{term_is}
 use Rattle.vx_terms.proofs.Values.{sort_of_formed}
 use Rattle.cs_certificate.specs.Terms.{head, parts, subterms, parts_of, without, distinct, HasSort}
 use Rattle.cs_certificate.specs.Certificate.{At, AllAt, no-terms, one-term, Contains, Clause, NumberedLiteral, Yes, Input, Derives, input}
-use Rattle.cs_nodes.specs.Nodes.{Node, StandsFor, Represents}
-use Rattle.cs_nodes.specs.Steps.{◌>>=◌, plain, Names, names-none, names-yes}
+use Rattle.cs_certificate.specs.Nodes.{Node, StandsFor, Represents}
+use Rattle.cs_certificate.specs.Steps.{◌>>=◌, plain, Names, names-none, names-yes}
 use Rattle.cs_numbers.specs.Numbering.{place, places, node_of, nodes_of, added, input_clause}
 use Rattle.cs_numbers.specs.Laws.{IsSorted, IsTable, of_assertions, and_of, NumbersMore, Tabulates, InputByNumber}
 use Rattle.cs_numbers.proofs.Itself.{term_same, other_term}
 use Rattle.cs_numbers.proofs.Added.{added_distinct, added_more}
 use Rattle.cs_numbers.proofs.Numbered.{Distinct, distinct_added, kept, new, from_added, part_in, part_of, sorted_of, sorted_in}
-
-some_is : {A : Type 0} {x y : A} → Some x ≡ Some y → x ≡ y
-some_is e = cc
 
 -- ---- what tables are
 pub record Ready (terms : List Term) : Type 0 where
@@ -82,15 +80,15 @@ place_at (u ∷ us) t k e = go (same t u) refl e (place_at us t)
   where
     later : (o : Option ℕ) → ((j : ℕ) → o ≡ Some j → At us j t) → option_map suc o ≡ Some k → At (u ∷ us) k t
     later None f e = cc
-    later (Some j) f e = let is : suc j ≡ k = some_is e in subst (λ x. At (u ∷ us) x t) is (f j refl)
+    later (Some j) f e = let is : suc j ≡ k = same_Some _ _ e in subst (λ x. At (u ∷ us) x t) is (f j refl)
 
     go : (b : Bool) → same t u ≡ b → (if b then Some 0 else option_map suc (place us t)) ≡ Some k → ((j : ℕ) → place us t ≡ Some j → At us j t) → At (u ∷ us) k t
-    go true f e h = let is : 0 ≡ k = some_is e in subst (λ x. At (u ∷ us) x t) is (ap Some (sym (term_is t u f)))
+    go true f e h = let is : 0 ≡ k = same_Some _ _ e in subst (λ x. At (u ∷ us) x t) is (ap Some (sym (term_is t u f)))
     go false f e h = later (place us t) h e
 
 placed : (terms : List Term) (t : Term) → Contains terms t → (k : ℕ) × (place terms t ≡ Some k)
 placed [] t (n, e) = cc
-placed (u ∷ us) t (zero, e) = (0, ap (λ b. if b then Some 0 else option_map suc (place us t)) (ap (same t) (some_is e) ∙ term_same t))
+placed (u ∷ us) t (zero, e) = (0, ap (λ b. if b then Some 0 else option_map suc (place us t)) (ap (same t) (same_Some _ _ e) ∙ term_same t))
 placed (u ∷ us) t (suc n, e) = go (same t u) refl (placed us t (n, e))
   where
     go : (b : Bool) → same t u ≡ b → (k : ℕ) × (place us t ≡ Some k) → (k : ℕ) × ((if same t u then Some 0 else option_map suc (place us t)) ≡ Some k)
@@ -136,7 +134,7 @@ module _ (terms : List Term) (r : Ready terms) where
       }
     where
       each_of : (x : Node) → StandsFor terms x t → (xs : List Node) → ((k : ℕ) (n : Node) → At xs k n → (u : Term) × At ts k u × StandsFor terms n u) → (k : ℕ) (n : Node) → At (x ∷ xs) k n → (u : Term) × At (t ∷ ts) k u × StandsFor terms n u
-      each_of x s xs f zero n e = (t, refl, subst (λ y. StandsFor terms y t) (some_is e) s)
+      each_of x s xs f zero n e = (t, refl, subst (λ y. StandsFor terms y t) (same_Some _ _ e) s)
       each_of x s xs f (suc k) n e = f k n e
 
       every_of : (x : Node) (xs : List Node) → ((k : ℕ) (u : Term) → At ts k u → (n : Node) × At xs k n) → (k : ℕ) (u : Term) → At (t ∷ ts) k u → (n : Node) × At (x ∷ xs) k n
@@ -152,12 +150,12 @@ tabulates terms k = represented terms (ready terms k)
 -- ---- assertions by their numbers
 root_at : (terms : List Term) (ns : List ℕ) (ts : List Term) → AllAt terms ns ts → (n k : ℕ) → slice_get ns n ≡ Some k → (t : Term) × At ts n t × At terms k t
 root_at terms _ _ no-terms n k e = cc
-root_at terms _ _ (one-term {t = t} at more) zero k e = (t, refl, subst (λ x. At terms x t) (some_is e) at)
+root_at terms _ _ (one-term {t = t} at more) zero k e = (t, refl, subst (λ x. At terms x t) (same_Some _ _ e) at)
 root_at terms _ _ (one-term at more) (suc n) k e = root_at terms _ _ more n k e
 
 at_root : (terms : List Term) (ns : List ℕ) (ts : List Term) → AllAt terms ns ts → (n : ℕ) (t : Term) → At ts n t → (k : ℕ) × (slice_get ns n ≡ Some k) × At terms k t
 at_root terms _ _ no-terms n t e = cc
-at_root terms _ _ (one-term {n = k} at more) zero t e = (k, refl, subst (At terms k) (some_is e) at)
+at_root terms _ _ (one-term {n = k} at more) zero t e = (k, refl, subst (At terms k) (same_Some _ _ e) at)
 at_root terms _ _ (one-term at more) (suc n) t e = at_root terms _ _ more n t e
 
 pub input_by_number : InputByNumber
@@ -167,7 +165,7 @@ input_by_number nodes s stack roots all n = record { sound = sound (slice_get ro
     sound None f ns e = cc
     sound (Some k) f ns e =
         let x = root_at s.terms roots stack.assertions all n k f in
-        (Yes x.0 ∷ [], subst (λ l. Names s.terms l (Yes x.0 ∷ [])) (some_is e) (names-yes x.2 names-none), input x.1)
+        (Yes x.0 ∷ [], subst (λ l. Names s.terms l (Yes x.0 ∷ [])) (same_Some _ _ e) (names-yes x.2 names-none), input x.1)
 
     complete : (c : Clause) → Derives stack s (Input n) c → (ns : List NumberedLiteral) × Names s.terms ns c × (input_clause roots n ≡ Some ns)
     complete c (input {t = t} at) =

@@ -3,7 +3,7 @@ use Rattle.std.specs.Prelude.{◌≡◌, ℕ, true, false, [], ◌∷◌, Some, 
 use Rattle.vx_terms.specs.Sorts.{BoolSort, RefSort, IntSort, Variable, Equal}
 use Rattle.vx_terms.specs.Terms.{Term, Constant, Apply, Not, NoTerms, MoreTerms}
 use Rattle.cs_certificate.specs.Terms.{BinaryHead, equal, parts_of}
-use Rattle.cs_nodes.specs.Steps.{plain}
+use Rattle.cs_certificate.specs.Steps.{plain}
 use Rattle.cs_numbers.specs.Numbering.{place, has, with_one, added, places, places_after, node_of, node_at, nodes_of, input_clause}
 use Rattle.cs_numbers.specs.Kept.{parts_at}
 

@@ -4,7 +4,7 @@ use Rattle.std.specs.Global.{Global}
 use Rattle.std.specs.List.{list_all}
 use Rattle.vx_terms.specs.Terms.{Term}
 use Rattle.cs_certificate.specs.Terms.{parts, subterms}
-use Rattle.cs_nodes.specs.Steps.{◌>>=◌}
+use Rattle.cs_certificate.specs.Steps.{◌>>=◌}
 use Rattle.cs_numbers.specs.Numbering.{has, places}
 
 -- whether all these terms have numbers

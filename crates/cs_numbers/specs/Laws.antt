@@ -5,8 +5,8 @@ use Rattle.vx_terms.specs.Interpretations.{Each}
 use Rattle.vx_terms.specs.Sorts.{Sort}
 use Rattle.cs_certificate.specs.Terms.{HasSort, subterms, numbered, parts_of}
 use Rattle.cs_certificate.specs.Certificate.{Stack, State, Input, with_term, AllAt}
-use Rattle.cs_nodes.specs.Nodes.{Node, Represents}
-use Rattle.cs_nodes.specs.Steps.{Computes}
+use Rattle.cs_certificate.specs.Nodes.{Node, Represents}
+use Rattle.cs_certificate.specs.Steps.{Computes}
 use Rattle.cs_numbers.specs.Numbering.{added, nodes_of, input_clause}
 
 -- a term of some sort

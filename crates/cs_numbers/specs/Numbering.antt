@@ -5,8 +5,8 @@ use Rattle.std.specs.Option.{option_map}
 use Rattle.vx_terms.specs.Terms.{Term, same, sort_of}
 use Rattle.cs_certificate.specs.Terms.{head, parts}
 use Rattle.cs_certificate.specs.Certificate.{NumberedLiteral}
-use Rattle.cs_nodes.specs.Nodes.{Node}
-use Rattle.cs_nodes.specs.Steps.{◌>>=◌, plain}
+use Rattle.cs_certificate.specs.Nodes.{Node}
+use Rattle.cs_certificate.specs.Steps.{◌>>=◌, plain}
 
 -- the number of a term
 abbrev pub place : List Term → Term → Option ℕ

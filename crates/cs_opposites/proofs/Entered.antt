@@ -3,6 +3,7 @@ use Rattle.std.proofs.Common.{◌≡◌, ◌<◌, ℕ, zero, suc, false, List, [
 use Rattle.std.proofs.lemmas.Bool.{cases_eq}
 use Rattle.std.proofs.lemmas.List.{length-set}
 use Rattle.std.proofs.lemmas.List.Elements.{All-head, All-tail}
+use Rattle.std.proofs.lemmas.Option.{same_Some}
 use Rattle.vx_terms.specs.Terms.{Term, Truth, Not}
 use Rattle.cs_certificate.specs.Certificate.{At, Contains}
 use Rattle.cs_numbers.specs.Numbering.{place}
@@ -12,9 +13,6 @@ use Rattle.cs_opposites.specs.Found.{place_in, AreEntered, IsPlaced, AreOpposite
 use Rattle.cs_opposites.specs.declared.find.Opposites.{Opposites}
 use Rattle.cs_opposites.specs.declared.find.Opposites.TheVariants.{False, Both}
 use Rattle.cs_opposites.specs.Opposites.{HasOpposites}
-
-some_is : {A : Type 0} {x y : A} → Some x ≡ Some y → x ≡ y
-some_is e = cc
 
 -- ---- lists by place
 at_set : {A : Type 0} (xs : List A) (i : ℕ) (x : A) → i < length xs → At (slice_set xs i x) i x
@@ -39,7 +37,7 @@ at_last [] x = refl
 at_last (y ∷ ys) x = at_last ys x
 
 only : {A : Type 0} (y x : A) → Contains (y ∷ []) x → x ≡ y
-only y x (zero, e) = sym (some_is e)
+only y x (zero, e) = sym (same_Some _ _ e)
 only y x (suc n, e) = cc
 
 -- ---- one assertion more
@@ -50,7 +48,7 @@ module _ (terms ts : List Term) (places : List (Option ℕ)) (h : AreEntered ter
   each : (m p : ℕ) → At after m (Some p) → (u : Term) × (place terms u ≡ Some m) × At (ts ++ t ∷ []) p u
   each m p e = elim (cases_eq m n) [
     | inl is ↦ (
-        let q : length ts ≡ p = some_is (some_is (sym (at_set places n (Some (length ts)) lt) ∙ ap (slice_get after) (sym is) ∙ e)) in
+        let q : length ts ≡ p = same_Some _ _ (same_Some _ _ (sym (at_set places n (Some (length ts)) lt) ∙ ap (slice_get after) (sym is) ∙ e)) in
         (t, here ∙ ap Some (sym is), subst (λ k. At (ts ++ t ∷ []) k t) q (at_last ts t)))
     | inr ne ↦ (
         let w = h.each m p (sym (at_others places n m (Some (length ts)) ne) ∙ e) in
@@ -92,7 +90,7 @@ pub placed : (terms ts : List Term) (places : List (Option ℕ)) (t : Term) (n :
 placed terms ts places t n here h = go (slice_get places n) refl
   where
     same_number : (m : ℕ) → place terms t ≡ Some m → m ≡ n
-    same_number m e = some_is (sym e ∙ here)
+    same_number m e = same_Some _ _ (sym e ∙ here)
 
     none : (o : Option (Option ℕ)) → slice_get places n ≡ o → place_in o ≡ None → ¬ (Contains ts t)
     none o e nothing c =
@@ -107,7 +105,7 @@ placed terms ts places t n here h = go (slice_get places n) refl
     go (Some None) e = none (Some None) e refl
     go (Some (Some p)) e =
         let w = h.each n p e in
-        let is : w.0 ≡ t = some_is (sym (place_at terms w.0 n w.1) ∙ place_at terms t n here) in
+        let is : w.0 ≡ t = same_Some _ _ (sym (place_at terms w.0 n w.1) ∙ place_at terms t n here) in
         subst (At ts p) is w.2
 
 -- the negation of a term

@@ -4,11 +4,12 @@ use Rattle.std.specs.Prelude.{if◌then◌else◌, Ok, Err}
 use Rattle.std.specs.declared.result.Result.{Result}
 use Rattle.std.specs.Option.{option_map}
 use Rattle.std.proofs.lemmas.List.{length-map}
+use Rattle.std.proofs.lemmas.Option.{same_Some}
 use Rattle.vx_terms.specs.Terms.{Term, Truth, Not, same}
 use Rattle.cs_certificate.specs.Certificate.{Yes, No, Clause, NumberedLiteral, Stack, State, with_clause, At, AllAt, no-terms, one-term, Contains, Step, Input, Define, Propagate, ReadsAll, no-literals, Refutes, ends, forces, Defines, Derives, input, define, propagate}
-use Rattle.cs_nodes.specs.Nodes.{Node}
-use Rattle.cs_nodes.specs.Steps.{Names, Computes}
-use Rattle.cs_nodes.proofs.Definitions.{define_computes}
+use Rattle.cs_certificate.specs.Nodes.{Node}
+use Rattle.cs_certificate.specs.Steps.{Names, Computes}
+use Rattle.cs_certificate.proofs.Definitions.{define_computes}
 use Rattle.cs_numbers.specs.Numbering.{place}
 use Rattle.cs_numbers.proofs.Itself.{term_same}
 use Rattle.cs_numbers.proofs.Tables.{tabulates}
@@ -19,9 +20,6 @@ use Rattle.cs_proof.proofs.Literals.{one_clause}
 use Rattle.cs_derivation.specs.Reached.{Reached, state_of, IsDerived, Adds, IsNew}
 use Rattle.cs_derivation.proofs.Starting.{place_at}
 use Rattle.cs_opposites.specs.Made.{IsMade, with_clauses, Has, Gains, HasEmpty}
-
-some_is : {A : Type 0} {x y : A} → Some x ≡ Some y → x ≡ y
-some_is e = cc
 
 -- ---- no step so far
 pub has_none : (stack : Stack) (r : Reached) → IsNew stack r → Has stack [] r
@@ -52,7 +50,7 @@ module _ (stack : Stack) (cs : List Clause) (r : Reached) (h : Has stack cs r) w
   -- ---- the clause of an assertion
   module _ (n : ℕ) (t : Term) (at : At stack.assertions n t) (E : Type 0) (q : Reached) (o : Option ℕ) (a : Adds {E = E} stack (Input n) r q (Ok o)) where
     one_input : (d : Clause) → Derives stack (state_of r) (Input n) d → d ≡ Yes t ∷ []
-    one_input d (input {t = u} e) = ap (λ x. Yes x ∷ []) (some_is (sym e ∙ at))
+    one_input d (input {t = u} e) = ap (λ x. Yes x ∷ []) (same_Some _ _ (sym e ∙ at))
 
     pub took_input : (m : ℕ) → o ≡ Some m → Gains stack cs (Yes t ∷ []) q m
     took_input m e = took (Input n) (Yes t ∷ []) (input at) one_input E q o a m e
@@ -65,7 +63,7 @@ module _ (stack : Stack) (cs : List Clause) (r : Reached) (h : Has stack cs r) w
   one_computed nodes s step o c d k p q =
       let x = k.complete c p in
       let y = k.complete d q in
-      one_clause s.terms x.1 (subst (λ ns. Names s.terms ns d) (some_is (sym y.2 ∙ x.2)) y.1)
+      one_clause s.terms x.1 (subst (λ ns. Names s.terms ns d) (same_Some _ _ (sym y.2 ∙ x.2)) y.1)
 
   module _ (n : ℕ) (t : Term) (here : place r.terms t ≡ Some n) (c : Clause) (row : Defines t 0 c) (E : Type 0) (q : Reached) (o : Option ℕ) (a : Adds {E = E} stack (Define n 0) r q (Ok o)) where
     by_row : Derives stack (state_of r) (Define n 0) c
@@ -104,7 +102,7 @@ module _ (stack : Stack) (cs : List Clause) (r : Reached) (h : Has stack cs r) w
 
 -- ---- the numbers of assertions
 all_at : {terms ts : List Term} {ns : List ℕ} (n : ℕ) (t : Term) → AllAt terms ns ts → At ts n t → Contains terms t
-all_at {terms = terms} zero t (one-term {n = k} at more) e = (k, subst (At terms k) (some_is e) at)
+all_at {terms = terms} zero t (one-term {n = k} at more) e = (k, subst (At terms k) (same_Some _ _ e) at)
 all_at (suc n) t (one-term at more) e = all_at n t more e
 all_at n t no-terms e = cc
 
@@ -114,7 +112,7 @@ placed_in (u ∷ us) t h = go (same t u) refl h (placed_in us t)
   where
     go : (b : Bool) → same t u ≡ b → Contains (u ∷ us) t → (Contains us t → (n : ℕ) × (place us t ≡ Some n)) → (n : ℕ) × (place (u ∷ us) t ≡ Some n)
     go true e c f = (0, ap (λ b. if b then Some 0 else option_map suc (place us t)) e)
-    go false e (zero, at) f = absurd (let x : true ≡ false = sym (term_same t) ∙ ap (same t) (sym (some_is at)) ∙ e in cc)
+    go false e (zero, at) f = absurd (let x : true ≡ false = sym (term_same t) ∙ ap (same t) (sym (same_Some _ _ at)) ∙ e in cc)
     go false e (suc n, at) f = let w = f (n, at) in (suc w.0, ap (λ b. if b then Some 0 else option_map suc (place us t)) e ∙ ap (option_map suc) w.1)
 
 -- an assertion's term has one, so none is missed

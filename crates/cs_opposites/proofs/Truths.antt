@@ -1,16 +1,14 @@
 -- Truths of opposites.
-use Rattle.std.proofs.Common.{◌≡◌, zero, suc, Bool, true, false, not, List, [], ◌∷◌, Some, inl, inr, subst}
+use Rattle.std.proofs.Common.{◌≡◌, zero, suc, Bool, true, false, not, List, [], ◌∷◌, inl, inr, subst}
+use Rattle.std.proofs.lemmas.Option.{same_Some}
 use Rattle.vx_terms.specs.Terms.{Truth, Not}
 use Rattle.vx_terms.specs.Interpretations.{Each, IsTrueIn, as_bool, value}
 use Rattle.cs_certificate.specs.Certificate.{Contains}
 use Rattle.cs_opposites.specs.Law.{Law}
 
-some_is : {A : Type 0} {x y : A} → Some x ≡ Some y → x ≡ y
-some_is e = cc
-
 each_in : {A : Type 0} (P : A → Type 0) (xs : List A) (x : A) → Each P xs → Contains xs x → P x
 each_in P [] x h (n, e) = cc
-each_in P (y ∷ ys) x h (zero, e) = subst P (some_is e) h.0
+each_in P (y ∷ ys) x h (zero, e) = subst P (same_Some _ _ e) h.0
 each_in P (y ∷ ys) x h (suc n, e) = each_in P ys x h.1 (n, e)
 
 never_both : (b : Bool) → b ≡ true → not b ≡ true → ⊥

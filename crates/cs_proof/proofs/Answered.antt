@@ -1,5 +1,6 @@
 -- The verdict is the answer.
 use Rattle.std.proofs.Common.{◌≡◌, ℕ, ◌<◌, ◌≤◌, ◌^◌, Bool, true, false, ◌&&◌, List, [], ◌∷◌, Option, Some, None, length, take, refl, sym, ◌∙◌, ap, subst, arith}
+use Rattle.std.proofs.lemmas.Option.{same_Some}
 use Rattle.vx_frac.specs.Fractions.{Fraction}
 use Rattle.vx_terms.specs.Sorts.{Sort}
 use Rattle.vx_terms.specs.Terms.{Term}
@@ -7,14 +8,14 @@ use Rattle.vx_terms.specs.Interpretations.{Each}
 use Rattle.cs_certificate.specs.Terms.{HasSort}
 use Rattle.cs_certificate.specs.Certificate.{Stack, State, Contains, NumberedLiteral, Step, Input, NewTerm, Define, Pick, Chain, Congruence, Farkas, Split, Trichotomy, Divide, Propagate, Leads, stays, names, derives, AreLive}
 use Rattle.cs_certificate.specs.Certificate as certificate
-use Rattle.cs_nodes.specs.Nodes.{Node}
-use Rattle.cs_nodes.specs.Steps.{ComputesSteps}
+use Rattle.cs_certificate.specs.Nodes.{Node}
+use Rattle.cs_certificate.specs.Steps.{ComputesSteps}
 use Rattle.cs_numbers.specs.Laws.{IsSorted}
 use Rattle.cs_numbers.specs.Parts.{HasFewParts}
 use Rattle.cs_sorts.specs.Sorting.{sort_in, is_live}
 use Rattle.cs_sorts.proofs.Told.{tells_sorts, tells_live}
-use Rattle.cs_hints.specs.declared.Clause.{Clause as Clause'}
-use Rattle.cs_hints.specs.Bridge.{state, IsNumbered, AreDistinct}
+use Rattle.cs_certificate.specs.declared.literal.Clause.{Clause as Clause'}
+use Rattle.cs_certificate.specs.Bridge.{state, IsNumbered, AreDistinct}
 use Rattle.cs_farkas.specs.Sums.{Done}
 use Rattle.cs_farkas.specs.Sums as sums
 use Rattle.cs_proof.specs.Prepared.{Missed, clause_by}
@@ -26,9 +27,6 @@ use Rattle.cs_proof.proofs.State.{state_of, Stands, as_long, named_stands, named
 use Rattle.cs_proof.proofs.Moves.{Fate, moves, misses, last_state, none_fate, clause_fate}
 use Rattle.cs_proof.proofs.Sums.{sum_fate}
 use Rattle.cs_proof.proofs.Hinted.{hints_fate}
-
-some_is : {A : Type 0} {x y : A} → Some x ≡ Some y → x ≡ y
-some_is e = cc
 
 -- what holds at each step of the plans that are made
 pub record Scene (stack : Stack) (roots : List ℕ) (nodes : List Node) (clauses : List Clause') (p : Plans) : Type 0 where
@@ -67,7 +65,7 @@ module _ (stack : Stack) (roots : List ℕ) (nodes : List Node) (clauses : List 
   led_named u (derives d rest) = absurd (elim d [ ])
 
   named_only : (q : Plans) → IsNamed p t q → IsSorted t → (u : State) → Meets stack (state_of p) (Some (NewTerm t)) u → u ≡ state_of q
-  named_only q n sorted u (step, e, l) = led_named u (subst (λ x. Leads stack (state_of p) (x ∷ []) u) (sym (some_is e)) l) ∙ named_state stack roots p t q h n sorted
+  named_only q n sorted u (step, e, l) = led_named u (subst (λ x. Leads stack (state_of p) (x ∷ []) u) (sym (same_Some _ _ e)) l) ∙ named_state stack roots p t q h n sorted
 
   term_fate : (q : Plans) (b : Bool) → is_fine stack.symbols t ≡ b → named_if p b t ≡ Some q → Fate stack roots nodes clauses p (Some (NewTerm t)) q
   term_fate q true f e =
@@ -78,14 +76,14 @@ module _ (stack : Stack) (roots : List ℕ) (nodes : List Node) (clauses : List 
       (named_only q n parts.0)
       over (named_stands stack roots p t q h n parts.0)
   term_fate q false f e =
-      subst (Fate stack roots nodes clauses p (Some (NewTerm t))) (some_is e) (misses Missed refl refl not_met over)
+      subst (Fate stack roots nodes clauses p (Some (NewTerm t))) (same_Some _ _ e) (misses Missed refl refl not_met over)
     where
       unnamed : (u : State) → Leads stack (state_of p) (NewTerm t ∷ []) u → ⊥
       unnamed u (names {sort = a} s l rest) = let g : true ≡ false = sym (parts_fine stack t a s l) ∙ f in cc
       unnamed u (derives d rest) = absurd (elim d [ ])
 
       not_met : (u : State) → Meets stack (state_of p) (Some (NewTerm t)) u → ⊥
-      not_met u (step, e, l) = unnamed u (subst (λ x. Leads stack (state_of p) (x ∷ []) u) (sym (some_is e)) l)
+      not_met u (step, e, l) = unnamed u (subst (λ x. Leads stack (state_of p) (x ∷ []) u) (sym (same_Some _ _ e)) l)
 
 -- ---- each step
 module _ (stack : Stack) (roots : List ℕ) (nodes : List Node) (clauses : List Clause') (p : Plans) (h : Scene stack roots nodes clauses p) where
@@ -93,15 +91,15 @@ module _ (stack : Stack) (roots : List ℕ) (nodes : List Node) (clauses : List 
   small_terms = let e = as_long stack roots p h.stands in let s = h.small in omega arith
 
   pub fate_of : (w : Option Step) (q : Plans) → planned stack.symbols roots p w ≡ Some q → Fate stack roots nodes clauses p w q
-  fate_of None q e = subst (Fate stack roots nodes clauses p None) (some_is e) (none_fate stack roots nodes clauses p h.stands)
+  fate_of None q e = subst (Fate stack roots nodes clauses p None) (same_Some _ _ e) (none_fate stack roots nodes clauses p h.stands)
   fate_of (Some (NewTerm t)) q e = term_fate stack roots nodes clauses p h.stands t q (is_fine stack.symbols t) refl e
-  fate_of (Some (Farkas ls ms)) q e = subst (Fate stack roots nodes clauses p (Some (Farkas ls ms))) (some_is e) (sum_fate stack roots nodes clauses p h.stands h.small h.front h.wide ls ms)
-  fate_of (Some (Propagate ls hs)) q e = subst (Fate stack roots nodes clauses p (Some (Propagate ls hs))) (some_is e) (hints_fate stack roots nodes clauses p h.stands h.small h.few_clauses h.here h.distinct h.within_terms ls hs)
-  fate_of (Some (Input n)) q e = subst (Fate stack roots nodes clauses p (Some (Input n))) (some_is e) (clause_fate stack roots nodes clauses p h.stands (Input n) tt (λ ls ms f. cc) (clause_by p.nodes roots (Input n)) (by_input stack (state_of p) small_terms h.few h.few_parts p.nodes roots h.by (h.stands).at_roots n))
-  fate_of (Some (Define t k)) q e = subst (Fate stack roots nodes clauses p (Some (Define t k))) (some_is e) (clause_fate stack roots nodes clauses p h.stands (Define t k) tt (λ ls ms f. cc) (clause_by p.nodes roots (Define t k)) (by_define stack (state_of p) small_terms h.few h.few_parts p.nodes roots h.by (h.stands).at_roots t k))
-  fate_of (Some (Pick t k)) q e = subst (Fate stack roots nodes clauses p (Some (Pick t k))) (some_is e) (clause_fate stack roots nodes clauses p h.stands (Pick t k) tt (λ ls ms f. cc) (clause_by p.nodes roots (Pick t k)) (by_pick stack (state_of p) small_terms h.few h.few_parts p.nodes roots h.by (h.stands).at_roots t k))
-  fate_of (Some (Chain ns)) q e = subst (Fate stack roots nodes clauses p (Some (Chain ns))) (some_is e) (clause_fate stack roots nodes clauses p h.stands (Chain ns) tt (λ ls ms f. cc) (clause_by p.nodes roots (Chain ns)) (by_chain stack (state_of p) small_terms h.few h.few_parts p.nodes roots h.by (h.stands).at_roots ns))
-  fate_of (Some (Congruence m n)) q e = subst (Fate stack roots nodes clauses p (Some (Congruence m n))) (some_is e) (clause_fate stack roots nodes clauses p h.stands (Congruence m n) tt (λ ls ms f. cc) (clause_by p.nodes roots (Congruence m n)) (by_congruence stack (state_of p) small_terms h.few h.few_parts p.nodes roots h.by (h.stands).at_roots m n))
-  fate_of (Some (Split t z)) q e = subst (Fate stack roots nodes clauses p (Some (Split t z))) (some_is e) (clause_fate stack roots nodes clauses p h.stands (Split t z) tt (λ ls ms f. cc) (clause_by p.nodes roots (Split t z)) (by_split stack (state_of p) small_terms h.few h.few_parts p.nodes roots h.by (h.stands).at_roots t z))
-  fate_of (Some (Trichotomy m n)) q e = subst (Fate stack roots nodes clauses p (Some (Trichotomy m n))) (some_is e) (clause_fate stack roots nodes clauses p h.stands (Trichotomy m n) tt (λ ls ms f. cc) (clause_by p.nodes roots (Trichotomy m n)) (by_trichotomy stack (state_of p) small_terms h.few h.few_parts p.nodes roots h.by (h.stands).at_roots m n))
-  fate_of (Some (Divide m n k)) q e = subst (Fate stack roots nodes clauses p (Some (Divide m n k))) (some_is e) (clause_fate stack roots nodes clauses p h.stands (Divide m n k) tt (λ ls ms f. cc) (clause_by p.nodes roots (Divide m n k)) (by_divide stack (state_of p) small_terms h.few h.few_parts p.nodes roots h.by (h.stands).at_roots m n k))
+  fate_of (Some (Farkas ls ms)) q e = subst (Fate stack roots nodes clauses p (Some (Farkas ls ms))) (same_Some _ _ e) (sum_fate stack roots nodes clauses p h.stands h.small h.front h.wide ls ms)
+  fate_of (Some (Propagate ls hs)) q e = subst (Fate stack roots nodes clauses p (Some (Propagate ls hs))) (same_Some _ _ e) (hints_fate stack roots nodes clauses p h.stands h.small h.few_clauses h.here h.distinct h.within_terms ls hs)
+  fate_of (Some (Input n)) q e = subst (Fate stack roots nodes clauses p (Some (Input n))) (same_Some _ _ e) (clause_fate stack roots nodes clauses p h.stands (Input n) tt (λ ls ms f. cc) (clause_by p.nodes roots (Input n)) (by_input stack (state_of p) small_terms h.few h.few_parts p.nodes roots h.by (h.stands).at_roots n))
+  fate_of (Some (Define t k)) q e = subst (Fate stack roots nodes clauses p (Some (Define t k))) (same_Some _ _ e) (clause_fate stack roots nodes clauses p h.stands (Define t k) tt (λ ls ms f. cc) (clause_by p.nodes roots (Define t k)) (by_define stack (state_of p) small_terms h.few h.few_parts p.nodes roots h.by (h.stands).at_roots t k))
+  fate_of (Some (Pick t k)) q e = subst (Fate stack roots nodes clauses p (Some (Pick t k))) (same_Some _ _ e) (clause_fate stack roots nodes clauses p h.stands (Pick t k) tt (λ ls ms f. cc) (clause_by p.nodes roots (Pick t k)) (by_pick stack (state_of p) small_terms h.few h.few_parts p.nodes roots h.by (h.stands).at_roots t k))
+  fate_of (Some (Chain ns)) q e = subst (Fate stack roots nodes clauses p (Some (Chain ns))) (same_Some _ _ e) (clause_fate stack roots nodes clauses p h.stands (Chain ns) tt (λ ls ms f. cc) (clause_by p.nodes roots (Chain ns)) (by_chain stack (state_of p) small_terms h.few h.few_parts p.nodes roots h.by (h.stands).at_roots ns))
+  fate_of (Some (Congruence m n)) q e = subst (Fate stack roots nodes clauses p (Some (Congruence m n))) (same_Some _ _ e) (clause_fate stack roots nodes clauses p h.stands (Congruence m n) tt (λ ls ms f. cc) (clause_by p.nodes roots (Congruence m n)) (by_congruence stack (state_of p) small_terms h.few h.few_parts p.nodes roots h.by (h.stands).at_roots m n))
+  fate_of (Some (Split t z)) q e = subst (Fate stack roots nodes clauses p (Some (Split t z))) (same_Some _ _ e) (clause_fate stack roots nodes clauses p h.stands (Split t z) tt (λ ls ms f. cc) (clause_by p.nodes roots (Split t z)) (by_split stack (state_of p) small_terms h.few h.few_parts p.nodes roots h.by (h.stands).at_roots t z))
+  fate_of (Some (Trichotomy m n)) q e = subst (Fate stack roots nodes clauses p (Some (Trichotomy m n))) (same_Some _ _ e) (clause_fate stack roots nodes clauses p h.stands (Trichotomy m n) tt (λ ls ms f. cc) (clause_by p.nodes roots (Trichotomy m n)) (by_trichotomy stack (state_of p) small_terms h.few h.few_parts p.nodes roots h.by (h.stands).at_roots m n))
+  fate_of (Some (Divide m n k)) q e = subst (Fate stack roots nodes clauses p (Some (Divide m n k))) (same_Some _ _ e) (clause_fate stack roots nodes clauses p h.stands (Divide m n k) tt (λ ls ms f. cc) (clause_by p.nodes roots (Divide m n k)) (by_divide stack (state_of p) small_terms h.few h.few_parts p.nodes roots h.by (h.stands).at_roots m n k))

@@ -2,6 +2,7 @@
 use Rattle.std.proofs.Common.{◌≡◌, zero, suc, ◌<◌, ◌^◌, List, [], ◌∷◌, Option, Some, None, All, map, length, refl, sym, subst, arith}
 use Rattle.std.specs.Prelude.{◌↔◌}
 use Rattle.std.proofs.lemmas.List.{length-map}
+use Rattle.std.proofs.lemmas.Option.{same_Some}
 use Rattle.vx_terms.specs.Terms.{Term}
 use Rattle.vx_terms.specs.Interpretations.{Each}
 use Rattle.vx_terms.specs.Views.{term}
@@ -18,12 +19,9 @@ use Rattle.cs_proof.specs.Checking.{Verdict, verdict}
 use Rattle.cs_proof.specs.Answers.{Answers}
 use Rattle.cs_proof.proofs.Whole.{whole_answer}
 
-some_is : {A : Type 0} {x y : A} → Some x ≡ Some y → x ≡ y
-some_is e = cc
-
 few_at : {X : Type 0} (view : X → Term) (xs : List X) (t : Term) → All (λ x. HasFewParts (view x)) xs → Contains (map view xs) t → HasFewParts t
 few_at view [] t h (n, e) = cc
-few_at view (x ∷ xs) t h (zero, e) = subst HasFewParts (some_is e) (h 0 x (omega arith))
+few_at view (x ∷ xs) t h (zero, e) = subst HasFewParts (same_Some _ _ e) (h 0 x (omega arith))
 few_at view (x ∷ xs) t h (suc n, e) = few_at view xs t (λ k d lt. h (suc k) d (omega arith)) (n, e)
 
 pub begun_answers : (stack : Stack') (ws : List (Option Step)) (p : Plans') → plans_of (seen stack) ws ≡ Some (stand p) → Fits p → length stack.assertions.items < 2 ^ 32 → length p.clauses.items < 2 ^ 32 → Each IsSorted (seen stack).assertions → (v : Verdict) →

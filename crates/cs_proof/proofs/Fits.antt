@@ -1,9 +1,9 @@
 -- Literals of the first terms are literals of more.
 use Rattle.std.proofs.Common.{ℕ, ◌≤◌, List, arith}
 use Rattle.std.specs.Prelude.{All}
-use Rattle.cs_hints.specs.declared.Clause.{Clause}
-use Rattle.cs_hints.specs.declared.Literal.{Literal}
-use Rattle.cs_hints.specs.Marks.{IsBelow}
+use Rattle.cs_certificate.specs.declared.literal.Clause.{Clause}
+use Rattle.cs_certificate.specs.declared.literal.Literal.{Literal}
+use Rattle.cs_certificate.specs.Marks.{IsBelow}
 use Rattle.cs_proof.specs.declared.prepare.Duty.{Duty}
 use Rattle.cs_proof.specs.Views.{IsFit, IsFitClause}
 

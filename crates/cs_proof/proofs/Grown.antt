@@ -2,20 +2,18 @@
 use Rattle.std.proofs.Common.{◌≡◌, ℕ, zero, suc, Bool, true, false, List, [], ◌∷◌, ◌++◌, Option, Some, None, length, take, drop, refl, sym, ◌∙◌, ap, ap₂, subst, append_assoc, append-nil}
 use Rattle.std.specs.Prelude.{slice_get, if◌then◌else◌}
 use Rattle.std.specs.Option.{option_map}
+use Rattle.std.proofs.lemmas.Option.{same_Some}
 use Rattle.vx_terms.specs.Terms.{Term, same, sort_of}
 use Rattle.vx_smt_meaning.specs.Commands.{Declared}
 use Rattle.cs_certificate.specs.Terms.{head, parts, subterms}
 use Rattle.cs_certificate.specs.Certificate.{At, AllAt, no-terms, one-term, Step, NewTerm}
-use Rattle.cs_nodes.specs.Nodes.{Node}
-use Rattle.cs_nodes.specs.Steps.{◌>>=◌}
-use Rattle.cs_nodes.proofs.Chains.{bind_some}
+use Rattle.cs_certificate.specs.Nodes.{Node}
+use Rattle.cs_certificate.specs.Steps.{◌>>=◌}
+use Rattle.cs_certificate.proofs.Chains.{bind_some}
 use Rattle.cs_numbers.specs.Numbering.{place, places, node_of, nodes_of, has, with_one, added}
-use Rattle.cs_hints.specs.declared.Literal.{Literal}
+use Rattle.cs_certificate.specs.declared.literal.Literal.{Literal}
 use Rattle.cs_proof.specs.Prepared.{Duty, Missed, Named, prepared}
 use Rattle.cs_proof.specs.Plans.{Plans, with_duty, kept, is_fine, named, named_if, planned, planned_all}
-
-some_is : {A : Type 0} {x y : A} → Some x ≡ Some y → x ≡ y
-some_is e = cc
 
 -- ---- lists
 pub take_front : {A : Type 0} (xs ys : List A) → take (length xs) (xs ++ ys) ≡ xs
@@ -100,22 +98,22 @@ named_is p t q e = go (nodes_of (added p.terms (subterms t)) (drop (length p.nod
     go : (o : Option (List Node)) → nodes_of (added p.terms (subterms t)) (drop (length p.nodes) (added p.terms (subterms t))) ≡ o →
         (((o >>= λ ns. Some (p.nodes ++ ns)) >>= λ nodes. Some record p { terms = added p.terms (subterms t); nodes = nodes }) >>= λ r. Some (with_duty r Named)) ≡ Some q → IsNamed p t q
     go None f e = cc
-    go (Some ns) f e = record { fresh = ns; are = f; whole = sym (some_is e) }
+    go (Some ns) f e = record { fresh = ns; are = f; whole = sym (same_Some _ _ e) }
 
 named_grows : (p : Plans) (t : Term) (q : Plans) → named p t ≡ Some q → Grows p q
 named_grows p t q e = let n = named_is p t q e in subst (Grows p) (sym n.whole) record { terms = added_begins p.terms (subterms t); nodes = (n.fresh, refl); duties = (Named ∷ [], refl); clauses = begins_itself p.clauses }
 
 pub planned_grows : (symbols : List Declared) (roots : List ℕ) (p : Plans) (w : Option Step) (q : Plans) → planned symbols roots p w ≡ Some q → Grows p q
-planned_grows symbols roots p None q e = subst (Grows p) (some_is e) (with_duty_grows p Missed)
+planned_grows symbols roots p None q e = subst (Grows p) (same_Some _ _ e) (with_duty_grows p Missed)
 planned_grows symbols roots p (Some (NewTerm t)) q e = go (is_fine symbols t) e
   where
     go : (b : Bool) → named_if p b t ≡ Some q → Grows p q
     go true e = named_grows p t q e
-    go false e = subst (Grows p) (some_is e) (with_duty_grows p Missed)
-planned_grows symbols roots p (Some step) q e = subst (Grows p) (some_is e) (kept_grows p (prepared p.nodes roots step))
+    go false e = subst (Grows p) (same_Some _ _ e) (with_duty_grows p Missed)
+planned_grows symbols roots p (Some step) q e = subst (Grows p) (same_Some _ _ e) (kept_grows p (prepared p.nodes roots step))
 
 pub all_grows : (symbols : List Declared) (roots : List ℕ) (p : Plans) (ws : List (Option Step)) (q : Plans) → planned_all symbols roots p ws ≡ Some q → Grows p q
-all_grows symbols roots p [] q e = subst (Grows p) (some_is e) (grows_itself p)
+all_grows symbols roots p [] q e = subst (Grows p) (same_Some _ _ e) (grows_itself p)
 all_grows symbols roots p (w ∷ ws) q e =
     let b = bind_some (planned symbols roots p w) (λ r. planned_all symbols roots r ws) q e in
     grows_on p b.0 q (planned_grows symbols roots p w b.0 b.1) (all_grows symbols roots b.0 ws q b.2)
@@ -153,18 +151,18 @@ nodes_left xs ys (t ∷ ts) ns e =
     ap (λ o. o >>= λ n. nodes_of (xs ++ ys) ts >>= λ ns. Some (n ∷ ns)) (node_left xs ys t b.0 b.1) ∙ ap (λ o. o >>= λ ns. Some (b.0 ∷ ns)) (nodes_left xs ys ts c.0 c.1) ∙ c.2
 
 nodes_joined : (xs ts us : List Term) (ns ms : List Node) → nodes_of xs ts ≡ Some ns → nodes_of xs us ≡ Some ms → nodes_of xs (ts ++ us) ≡ Some (ns ++ ms)
-nodes_joined xs [] us ns ms e f = f ∙ ap (λ l. Some (l ++ ms)) (some_is e)
+nodes_joined xs [] us ns ms e f = f ∙ ap (λ l. Some (l ++ ms)) (same_Some _ _ e)
 nodes_joined xs (t ∷ ts) us ns ms e f =
     let b = bind_some (node_of xs t) (λ n. nodes_of xs ts >>= λ ns. Some (n ∷ ns)) ns e in
     let c = bind_some (nodes_of xs ts) (λ ns. Some (b.0 ∷ ns)) ns b.2 in
-    ap (λ o. o >>= λ n. nodes_of xs (ts ++ us) >>= λ ns. Some (n ∷ ns)) b.1 ∙ ap (λ o. o >>= λ ns. Some (b.0 ∷ ns)) (nodes_joined xs ts us c.0 ms c.1 f) ∙ ap (λ l. Some (l ++ ms)) (some_is c.2)
+    ap (λ o. o >>= λ n. nodes_of xs (ts ++ us) >>= λ ns. Some (n ∷ ns)) b.1 ∙ ap (λ o. o >>= λ ns. Some (b.0 ∷ ns)) (nodes_joined xs ts us c.0 ms c.1 f) ∙ ap (λ l. Some (l ++ ms)) (same_Some _ _ c.2)
 
 pub as_many : (xs ts : List Term) (ns : List Node) → nodes_of xs ts ≡ Some ns → length ns ≡ length ts
-as_many xs [] ns e = ap length (sym (some_is e))
+as_many xs [] ns e = ap length (sym (same_Some _ _ e))
 as_many xs (t ∷ ts) ns e =
     let b = bind_some (node_of xs t) (λ n. nodes_of xs ts >>= λ ns. Some (n ∷ ns)) ns e in
     let c = bind_some (nodes_of xs ts) (λ ns. Some (b.0 ∷ ns)) ns b.2 in
-    ap length (sym (some_is c.2)) ∙ ap suc (as_many xs ts c.0 c.1)
+    ap length (sym (same_Some _ _ c.2)) ∙ ap suc (as_many xs ts c.0 c.1)
 
 -- with the nodes of further terms behind them
 pub nodes_grown : (xs ys : List Term) (ns fresh : List Node) → Begins xs ys → nodes_of xs xs ≡ Some ns → nodes_of ys (drop (length ns) ys) ≡ Some fresh → nodes_of ys ys ≡ Some (ns ++ fresh)

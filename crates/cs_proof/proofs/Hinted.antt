@@ -5,13 +5,13 @@ use Rattle.std.specs.List.{list_all}
 use Rattle.vx_frac.specs.Fractions.{Fraction}
 use Rattle.vx_terms.specs.Interpretations.{Each}
 use Rattle.cs_certificate.specs.Certificate.{Stack, Clause, negated, NumberedLiteral, Farkas, Propagate, Refutes, Derives, propagate}
-use Rattle.cs_nodes.specs.Nodes.{Node}
-use Rattle.cs_nodes.specs.Steps.{◌>>=◌, Names}
-use Rattle.cs_hints.specs.declared.Literal.{Literal}
-use Rattle.cs_hints.specs.declared.Clause.{Clause as Clause'}
-use Rattle.cs_hints.specs.Hints as hints
-use Rattle.cs_hints.specs.Bridge.{views, state, IsNumbered, AreDistinct}
-use Rattle.cs_hints.proofs.Bridged.{bridged, converse}
+use Rattle.cs_certificate.specs.Nodes.{Node}
+use Rattle.cs_certificate.specs.Steps.{◌>>=◌, Names}
+use Rattle.cs_certificate.specs.declared.literal.Literal.{Literal}
+use Rattle.cs_certificate.specs.declared.literal.Clause.{Clause as Clause'}
+use Rattle.cs_certificate.specs.Hints as hints
+use Rattle.cs_certificate.specs.Bridge.{views, state, IsNumbered, AreDistinct}
+use Rattle.cs_certificate.proofs.Bridged.{bridged, converse}
 use Rattle.cs_farkas.specs.Sums.{Done, Misses}
 use Rattle.cs_farkas.specs.Sums as sums
 use Rattle.cs_proof.specs.Prepared.{Duty, Missed, Hints, narrow_literals, within, turned, is_bool, with_literals, if_all_bool, propagation, saturate}
@@ -24,9 +24,6 @@ use Rattle.cs_proof.proofs.Narrowed.{literals_are, literals_named, saturated}
 use Rattle.cs_proof.proofs.Lits.{reads_names, bools_within, turned_within, all_read, read_bools, turned_views}
 use Rattle.cs_proof.proofs.State.{state_of, Stands, represents, as_long}
 use Rattle.cs_proof.proofs.Moves.{Fate, misses, not_met, moved}
-
-some_is : {A : Type 0} {x y : A} → Some x ≡ Some y → x ≡ y
-some_is e = cc
 
 module _ (stack : Stack) (roots : List ℕ) (nodes : List Node) (clauses : List Clause') (p : Plans) (h : Stands stack roots p)
     (small : length p.nodes < 2 ^ 32) (few : length (take (length p.clauses) clauses) < 2 ^ 32)

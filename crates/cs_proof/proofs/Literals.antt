@@ -6,13 +6,10 @@ use Rattle.std.proofs.lemmas.Bool.{lt-ltb}
 use Rattle.vx_terms.specs.Terms.{Term, Truth}
 use Rattle.vx_terms.specs.Interpretations.{Each}
 use Rattle.cs_certificate.specs.Certificate.{At, Clause, Yes, No, NumberedLiteral}
-use Rattle.cs_nodes.specs.Steps.{◌>>=◌, plain, denial, Names, names-none, names-yes, names-no}
-use Rattle.cs_hints.specs.declared.Literal.{Literal}
-use Rattle.cs_hints.specs.Bridge.{term_at, views, IsNumbered}
+use Rattle.cs_certificate.specs.Steps.{◌>>=◌, plain, denial, Names, names-none, names-yes, names-no}
+use Rattle.cs_certificate.specs.declared.literal.Literal.{Literal}
+use Rattle.cs_certificate.specs.Bridge.{term_at, views, IsNumbered}
 use Rattle.cs_proof.specs.Prepared.{is_plain, one_within, within}
-
-pub some_is : {A : Type 0} {x y : A} → Some x ≡ Some y → x ≡ y
-some_is e = cc
 
 -- the literal by its number
 abbrev pub named : NumberedLiteral → Literal

@@ -10,18 +10,15 @@ use Rattle.vx_terms.specs.Terms.{Term}
 use Rattle.vx_terms.proofs.Same.{sort_is}
 use Rattle.cs_certificate.specs.Terms.{HasSort}
 use Rattle.cs_certificate.specs.Certificate.{State, Clause, At, Sign, Plain, Negated, Yes, No, negated, NumberedLiteral, Reads, reads-plain, reads-negated, ReadsAll, no-literals, one-literal}
-use Rattle.cs_nodes.specs.Nodes.{Node, Represents}
-use Rattle.cs_nodes.specs.Steps.{◌>>=◌, Names, names-none, names-yes, names-no}
-use Rattle.cs_nodes.proofs.Comparisons.{sort_at}
-use Rattle.cs_nodes.proofs.Heads.{sort_same}
-use Rattle.cs_hints.specs.Bridge.{view, views}
+use Rattle.cs_certificate.specs.Nodes.{Node, Represents}
+use Rattle.cs_certificate.specs.Steps.{◌>>=◌, Names, names-none, names-yes, names-no}
+use Rattle.cs_certificate.proofs.Comparisons.{sort_at}
+use Rattle.cs_certificate.proofs.Heads.{sort_same}
+use Rattle.cs_certificate.specs.Bridge.{view, views}
 use Rattle.cs_farkas.specs.Rows.{Bound, Part, with_part, parts_of, bound_at, of_sides}
 use Rattle.cs_proof.specs.Prepared.{narrow_literals, within, turned, other_sign, is_bool}
 use Rattle.cs_proof.proofs.Literals.{named, term_is}
 use Rattle.cs_proof.proofs.Narrowed.{one_more}
-
-some_is : {A : Type 0} {x y : A} → Some x ≡ Some y → x ≡ y
-some_is e = cc
 
 -- ---- what is read is named
 pub reads_names : (s : State) {ns : List NumberedLiteral} {c : Clause} → ReadsAll s ns c → Names s.terms ns c

@@ -1,11 +1,12 @@
 -- One step: what the checker does of it, and what its rule says.
 use Rattle.std.proofs.Common.{◌≡◌, ℕ, suc, List, [], ◌∷◌, ◌++◌, Option, Some, None, map, length, refl, sym, ◌∙◌, ap, subst, arith}
+use Rattle.std.proofs.lemmas.Option.{same_Some}
 use Rattle.vx_frac.specs.Fractions.{Fraction}
 use Rattle.cs_certificate.specs.Certificate.{Stack, State, Clause, NumberedLiteral, Step, NewTerm, Farkas, Derives, Leads, stays, derives}
 use Rattle.cs_certificate.specs.Certificate as certificate
-use Rattle.cs_nodes.specs.Nodes.{Node, Represents}
-use Rattle.cs_nodes.specs.Steps.{◌>>=◌, Names, Computes}
-use Rattle.cs_hints.specs.declared.Clause.{Clause as Clause'}
+use Rattle.cs_certificate.specs.Nodes.{Node, Represents}
+use Rattle.cs_certificate.specs.Steps.{◌>>=◌, Names, Computes}
+use Rattle.cs_certificate.specs.declared.literal.Clause.{Clause as Clause'}
 use Rattle.cs_farkas.specs.Sums.{Done, Leaves, Misses}
 use Rattle.cs_farkas.specs.Sums as sums
 use Rattle.cs_proof.specs.Prepared.{Duty, Derived, Missed, within, derived}
@@ -14,9 +15,6 @@ use Rattle.cs_proof.specs.Checking.{met}
 use Rattle.cs_proof.specs.Answers.{Meets, IsOver}
 use Rattle.cs_proof.proofs.Literals.{named, all_within, one_clause}
 use Rattle.cs_proof.proofs.State.{state_of, Stands, represents, as_long, clause_stands, clause_state}
-
-some_is : {A : Type 0} {x y : A} → Some x ≡ Some y → x ≡ y
-some_is e = cc
 
 -- the step meets its rule and is done, or not
 pub data Fate (stack : Stack) (roots : List ℕ) (nodes : List Node) (clauses : List Clause') (p : Plans) (w : Option Step) (q : Plans) : Type 0 where
@@ -67,14 +65,14 @@ module _ (stack : Stack) (roots : List ℕ) (nodes : List Node) (clauses : List 
 
   module _ (step : Step) (has_clause : IsDeriving step) where
     pub not_met : ((c : Clause) → Derives stack (state_of p) step c → ⊥) → (u : State) → Meets stack (state_of p) (Some step) u → ⊥
-    not_met never u (other, e, l) = let d = led stack (state_of p) u step has_clause (subst (λ x. Leads stack (state_of p) (x ∷ []) u) (sym (some_is e)) l) in never d.0 d.1
+    not_met never u (other, e, l) = let d = led stack (state_of p) u step has_clause (subst (λ x. Leads stack (state_of p) (x ∷ []) u) (sym (same_Some _ _ e)) l) in never d.0 d.1
 
     met_by : (d : Duty) {ns : List NumberedLiteral} {c : Clause} → Names p.terms ns c → Derives stack (state_of p) step c → Meets stack (state_of p) (Some step) (state_of (with_clause p (d, map named ns)))
     met_by d {c = c} n by = (step, refl, subst (Leads stack (state_of p) (step ∷ [])) (clause_state p d n) (derives by stays))
 
     met_only : (d : Duty) {ns : List NumberedLiteral} {c : Clause} → Names p.terms ns c → ((b : Clause) → Derives stack (state_of p) step b → b ≡ c) → (u : State) → Meets stack (state_of p) (Some step) u → u ≡ state_of (with_clause p (d, map named ns))
     met_only d {c = c} n one u (other, e, l) =
-        let x = led_to stack (state_of p) u step has_clause (subst (λ x. Leads stack (state_of p) (x ∷ []) u) (sym (some_is e)) l) in
+        let x = led_to stack (state_of p) u step has_clause (subst (λ x. Leads stack (state_of p) (x ∷ []) u) (sym (same_Some _ _ e)) l) in
         x.2 ∙ ap (certificate.with_clause (state_of p)) (one x.0 x.1) ∙ clause_state p d n
 
     pub moved : (d : Duty) {ns : List NumberedLiteral} {c : Clause} → met nodes clauses (length p.clauses) d ≡ Done (suc (length p.clauses)) → Names p.terms ns c → Derives stack (state_of p) step c → ((b : Clause) → Derives stack (state_of p) step b → b ≡ c) →
@@ -87,11 +85,11 @@ module _ (stack : Stack) (roots : List ℕ) (nodes : List Node) (clauses : List 
     clause_fate other computed by = go computed refl
       where
         over : (o : sums.Over) → IsOver (state_of p) (Some step) o → ⊥
-        over o w = other w.0 w.1 (some_is w.2)
+        over o w = other w.0 w.1 (same_Some _ _ w.2)
 
         go : (o : Option (List NumberedLiteral)) → computed ≡ o → Fate stack roots nodes clauses p (Some step) (kept p (derived p.nodes o))
         go None e = misses Missed refl refl (not_met (λ c d. let x = by.complete c d in let f : Some x.0 ≡ None = sym x.2 ∙ e in cc)) over
         go (Some ns) e =
             let x = by.sound ns e in
             let fits : within (length p.nodes) ns ≡ Some (map named ns) = all_within p.terms (length p.nodes) (let f = as_long stack roots p h in omega arith) x.1 in
-            subst (λ o. Fate stack roots nodes clauses p (Some step) (kept p (o >>= λ ls. Some (Derived, ls)))) (sym fits) (moved Derived refl x.1 x.2 (λ b d. (let y = by.complete b d in one_clause p.terms (subst (λ l. Names p.terms l b) (some_is (sym y.2 ∙ e)) y.1) x.1)) over)
+            subst (λ o. Fate stack roots nodes clauses p (Some step) (kept p (o >>= λ ls. Some (Derived, ls)))) (sym fits) (moved Derived refl x.1 x.2 (λ b d. (let y = by.complete b d in one_clause p.terms (subst (λ l. Names p.terms l b) (same_Some _ _ (sym y.2 ∙ e)) y.1) x.1)) over)

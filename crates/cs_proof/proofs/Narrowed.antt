@@ -1,21 +1,18 @@
 -- Numbers of terms have 32 bits.
 use Rattle.std.proofs.Common.{◌≡◌, ℕ, ◌<◌, ◌^◌, Bool, true, false, List, [], ◌∷◌, ◌++◌, Option, Some, None, map, length, refl, sym, ◌∙◌, ap, ap₂, arith}
 use Rattle.std.specs.Prelude.{nat_lt, slice_get, if◌then◌else◌}
-use Rattle.std.proofs.lemmas.Option.{slice_get_within, slice_get_past}
+use Rattle.std.proofs.lemmas.Option.{slice_get_within, slice_get_past, same_Some}
 use Rattle.std.proofs.lemmas.Bool.{lt-ltb, ltb-false}
 use Rattle.vx_terms.specs.Terms.{Term}
 use Rattle.cs_certificate.specs.Certificate.{At, AllAt, no-terms, one-term, Clause, NumberedLiteral, Stack, State, Step, Derives}
-use Rattle.cs_nodes.specs.Nodes.{Node}
-use Rattle.cs_nodes.specs.Steps.{◌>>=◌, plain, denial, Names, names-none, names-yes, names-no, Computes}
-use Rattle.cs_hints.specs.declared.Literal.{Literal}
-use Rattle.cs_hints.specs.declared.Clause.{Clause as Clause'}
-use Rattle.cs_hints.specs.declared.Left.{Left}
-use Rattle.cs_hints.specs.declared.Left.TheVariants.{Nothing, One, Many}
-use Rattle.cs_hints.specs.Hints.{refutes, at_hint, after, left}
+use Rattle.cs_certificate.specs.Nodes.{Node}
+use Rattle.cs_certificate.specs.Steps.{◌>>=◌, plain, denial, Names, names-none, names-yes, names-no, Computes}
+use Rattle.cs_certificate.specs.declared.literal.Literal.{Literal}
+use Rattle.cs_certificate.specs.declared.literal.Clause.{Clause as Clause'}
+use Rattle.cs_certificate.specs.declared.literal.Left.{Left}
+use Rattle.cs_certificate.specs.declared.literal.Left.TheVariants.{Nothing, One, Many}
+use Rattle.cs_certificate.specs.Hints.{refutes, at_hint, after, left}
 use Rattle.cs_proof.specs.Prepared.{narrow, narrow_all, narrow_literal, narrow_literals, saturate}
-
-some_is : {A : Type 0} {x y : A} → Some x ≡ Some y → x ≡ y
-some_is e = cc
 
 pub narrow_is : (n : ℕ) → n < 2 ^ 32 → narrow n ≡ Some n
 narrow_is n lt = ap (λ b. if b then Some n else None) (lt-ltb n (2 ^ 32) lt)
@@ -42,7 +39,7 @@ narrowed_all (n ∷ ns) ms e = go (narrow n) refl (narrow_all ns) (narrowed_all 
     go : (o : Option ℕ) → narrow n ≡ o → (p : Option (List ℕ)) → ((ks : List ℕ) → narrow_all ns ≡ Some ks → ks ≡ ns) → narrow_all ns ≡ p → (o >>= λ m. (p >>= λ ms. Some (m ∷ ms))) ≡ Some ms → ms ≡ n ∷ ns
     go None f p ih g e = cc
     go (Some k) f None ih g e = cc
-    go (Some k) f (Some ks) ih g e = sym (some_is e) ∙ ap₂ (λ x xs. x ∷ xs) (narrowed_is n k f) (ih ks g)
+    go (Some k) f (Some ks) ih g e = sym (same_Some _ _ e) ∙ ap₂ (λ x xs. x ∷ xs) (narrowed_is n k f) (ih ks g)
 
 literal_is : (l k : NumberedLiteral) → narrow_literal l ≡ Some k → k ≡ l
 literal_is l k e = go (nat_lt l.number (2 ^ 32)) e
@@ -58,7 +55,7 @@ literals_are (l ∷ ls) ks e = go (narrow_literal l) refl (narrow_literals ls) (
     go : (o : Option NumberedLiteral) → narrow_literal l ≡ o → (p : Option (List NumberedLiteral)) → ((ms : List NumberedLiteral) → narrow_literals ls ≡ Some ms → ms ≡ ls) → narrow_literals ls ≡ p → (o >>= λ m. (p >>= λ ms. Some (m ∷ ms))) ≡ Some ks → ks ≡ l ∷ ls
     go None f p ih g e = cc
     go (Some k) f None ih g e = cc
-    go (Some k) f (Some ms) ih g e = sym (some_is e) ∙ ap₂ (λ x xs. x ∷ xs) (literal_is l k f) (ih ms g)
+    go (Some k) f (Some ms) ih g e = sym (same_Some _ _ e) ∙ ap₂ (λ x xs. x ∷ xs) (literal_is l k f) (ih ms g)
 
 literal_here : (l : NumberedLiteral) → l.number < 2 ^ 32 → narrow_literal l ≡ Some l
 literal_here l lt = ap (λ o. o >>= λ n. Some record { sign = l.sign; number = n }) (narrow_is l.number lt)

@@ -3,8 +3,8 @@ use Rattle.std.proofs.Common.{◌≡◌, ℕ, ◌<◌, ◌^◌, List, Option, So
 use Rattle.std.proofs.lemmas.Option.{slice_get_within}
 use Rattle.vx_terms.specs.Terms.{Term}
 use Rattle.cs_certificate.specs.Certificate.{AllAt, one-term, Contains, Clause, Stack, State, Input, Define, Pick, Chain, Congruence, Split, Trichotomy, Divide, IsAnd, and-of-two, and-of-more, IsOr, or-of-two, or-of-more, Defines, true-is, false-is, not-0, not-1, and-part, and-all, or-part, or-all, implies-0, implies-1, implies-2, ite-0, ite-1, ite-2, ite-3, equal-0, equal-1, equal-2, equal-3, Derives, input, define, pick-then, pick-else, chain, congruence, split, trichotomy, divide-0, divide-1, divide-2}
-use Rattle.cs_nodes.specs.Nodes.{Node}
-use Rattle.cs_nodes.specs.Steps.{◌>>=◌, Computes, ComputesSteps, define_clause, pick_clause, chain_clause, congruence_clause, split_clause, trichotomy_clause, divide_clause}
+use Rattle.cs_certificate.specs.Nodes.{Node}
+use Rattle.cs_certificate.specs.Steps.{◌>>=◌, Computes, ComputesSteps, define_clause, pick_clause, chain_clause, congruence_clause, split_clause, trichotomy_clause, divide_clause}
 use Rattle.cs_numbers.specs.Numbering.{input_clause}
 use Rattle.cs_numbers.specs.Parts.{HasFewParts}
 use Rattle.cs_numbers.proofs.Tables.{input_by_number}

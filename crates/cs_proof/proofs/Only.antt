@@ -1,14 +1,12 @@
 -- There is one answer.
-use Rattle.std.proofs.Common.{◌≡◌, ℕ, suc, ◌+◌, List, [], ◌∷◌, ◌++◌, Option, Some, length, refl, sym, ◌∙◌, ap, subst, arith}
+use Rattle.std.proofs.Common.{◌≡◌, ℕ, suc, ◌+◌, List, [], ◌∷◌, ◌++◌, Option, length, refl, sym, ◌∙◌, ap, subst, arith}
+use Rattle.std.proofs.lemmas.Option.{same_Some}
 use Rattle.cs_certificate.specs.Certificate.{Stack, State, start, Step, Farkas, Contains}
 use Rattle.cs_farkas.specs.Sums.{Leaves, Outcome}
 use Rattle.cs_farkas.specs.Sums as sums
 use Rattle.cs_farkas.specs.Rows.{farkas_clause}
 use Rattle.cs_proof.specs.Checking.{Verdict, Finished, BadStep, Over, NotEmpty, BadForm}
 use Rattle.cs_proof.specs.Answers.{Meets, IsOver, Holds, none, more, Reaches, Answers}
-
-some_is : {A : Type 0} {x y : A} → Some x ≡ Some y → x ≡ y
-some_is e = cc
 
 first_is : {A : Type 0} {x y : A} {xs ys : List A} → x ∷ xs ≡ y ∷ ys → x ≡ y
 first_is e = cc
@@ -22,8 +20,8 @@ leaves_is x e f = let g = sym e ∙ f in cc
 
 pub one_over : (s : State) (w : Option Step) (o p : sums.Over) → IsOver s w o → IsOver s w p → o ≡ p
 one_over s w o p (ls, ms, e, ns, is, f) (ls', ms', e', ns', is', f') =
-    let one : Farkas ls ms ≡ Farkas ls' ms' = some_is (sym e ∙ e') in
-    let same : ns ≡ ns' = some_is (sym is ∙ is') in
+    let one : Farkas ls ms ≡ Farkas ls' ms' = same_Some _ _ (sym e ∙ e') in
+    let same : ns ≡ ns' = same_Some _ _ (sym is ∙ is') in
     leaves_is (farkas_clause ns (length ns) ls ms) f (ap (λ l. farkas_clause ns (length ns) l ms) (literals one) ∙ ap (λ m. farkas_clause ns (length ns) ls' m) (multipliers one) ∙ ap (λ n. farkas_clause n (length n) ls' ms') same ∙ f')
   where
     literals : Farkas ls ms ≡ Farkas ls' ms' → ls ≡ ls'

@@ -1,25 +1,23 @@
 -- The state that plans stand for, and what holds of them.
 use Rattle.std.proofs.Common.{◌≡◌, ℕ, ◌<◌, List, [], ◌∷◌, ◌++◌, ◌+◌, true, Some, map, length, refl, sym, ◌∙◌, ap, ap₂, subst, arith}
 use Rattle.std.proofs.lemmas.List.{map-append, get_or_append_left, length-append}
+use Rattle.std.proofs.lemmas.Option.{same_Some}
 use Rattle.vx_terms.specs.Terms.{Term, Truth}
 use Rattle.vx_terms.specs.Interpretations.{Each}
 use Rattle.cs_certificate.specs.Terms.{subterms}
 use Rattle.cs_certificate.specs.Certificate.{Stack, State, Clause, AllAt}
 use Rattle.cs_certificate.specs.Certificate as certificate
-use Rattle.cs_nodes.specs.Nodes.{Represents}
-use Rattle.cs_nodes.specs.Steps.{Names}
+use Rattle.cs_certificate.specs.Nodes.{Represents}
+use Rattle.cs_certificate.specs.Steps.{Names}
 use Rattle.cs_numbers.specs.Numbering.{nodes_of, added}
 use Rattle.cs_numbers.specs.Laws.{IsSorted, IsTable, and_of}
 use Rattle.cs_numbers.proofs.Tables.{tabulates, numbers_more}
-use Rattle.cs_hints.specs.declared.Literal.{Literal}
-use Rattle.cs_hints.specs.Bridge.{term_at, signed, views, IsNumbered}
+use Rattle.cs_certificate.specs.declared.literal.Literal.{Literal}
+use Rattle.cs_certificate.specs.Bridge.{term_at, signed, views, IsNumbered}
 use Rattle.cs_proof.specs.Prepared.{Duty}
 use Rattle.cs_proof.specs.Plans.{Plans, with_clause}
 use Rattle.cs_proof.proofs.Literals.{named, viewed, numbered}
 use Rattle.cs_proof.proofs.Grown.{Begins, all_left, added_begins, as_many, nodes_grown, IsNamed}
-
-some_is : {A : Type 0} {x y : A} → Some x ≡ Some y → x ≡ y
-some_is e = cc
 
 abbrev pub state_of : Plans → State
 state_of p = record { terms = p.terms; clauses = map (views p.terms) p.clauses }
@@ -31,7 +29,7 @@ pub record Stands (stack : Stack) (roots : List ℕ) (p : Plans) : Type 0 where
   pub at_roots : AllAt p.terms roots stack.assertions
 
 pub represents : (stack : Stack) (roots : List ℕ) (p : Plans) → Stands stack roots p → Represents p.nodes p.terms
-represents stack roots p h = let t = tabulates p.terms h.table in subst (λ ns. Represents ns p.terms) (some_is (sym t.1 ∙ h.nodes)) t.2
+represents stack roots p h = let t = tabulates p.terms h.table in subst (λ ns. Represents ns p.terms) (same_Some _ _ (sym t.1 ∙ h.nodes)) t.2
 
 pub as_long : (stack : Stack) (roots : List ℕ) (p : Plans) → Stands stack roots p → length p.nodes ≡ length p.terms
 as_long stack roots p h = as_many p.terms p.terms p.nodes h.nodes

@@ -1,10 +1,11 @@
 -- A `farkas` step: what the checker does of it, and what its rule says.
 use Rattle.std.proofs.Common.{◌≡◌, ℕ, suc, ◌<◌, ◌≤◌, ◌^◌, List, [], ◌∷◌, ◌++◌, Option, Some, None, map, length, take, inl, inr, refl, sym, ◌∙◌, ap, subst, arith}
+use Rattle.std.proofs.lemmas.Option.{same_Some}
 use Rattle.vx_frac.specs.Fractions.{Fraction}
 use Rattle.cs_certificate.specs.Certificate.{Stack, Clause, NumberedLiteral, Farkas, Derives, farkas}
-use Rattle.cs_nodes.specs.Nodes.{Node}
-use Rattle.cs_nodes.specs.Steps.{◌>>=◌, Names}
-use Rattle.cs_hints.specs.declared.Clause.{Clause as Clause'}
+use Rattle.cs_certificate.specs.Nodes.{Node}
+use Rattle.cs_certificate.specs.Steps.{◌>>=◌, Names}
+use Rattle.cs_certificate.specs.declared.literal.Clause.{Clause as Clause'}
 use Rattle.cs_farkas.specs.Sums.{Outcome, Done, Leaves, Misses}
 use Rattle.cs_farkas.specs.Sums as sums
 use Rattle.cs_farkas.specs.Bridge.{Decides}
@@ -20,9 +21,6 @@ use Rattle.cs_proof.proofs.Narrowed.{literals_are, literals_named}
 use Rattle.cs_proof.proofs.Lits.{InRange, parts_in_range, reads_names}
 use Rattle.cs_proof.proofs.State.{state_of, Stands, represents, as_long}
 use Rattle.cs_proof.proofs.Moves.{Fate, misses, leaves, not_met, moved}
-
-some_is : {A : Type 0} {x y : A} → Some x ≡ Some y → x ≡ y
-some_is e = cc
 
 combined_in_range : (nodes : List Node) (ls : List NumberedLiteral) (ms : List Fraction) (c : Combination) → combination_of nodes ls ms ≡ Some c → InRange (length nodes) ls
 combined_in_range nodes ls ms c e = go (parts_of nodes ls ms) refl e
@@ -46,9 +44,9 @@ module _ (stack : Stack) (roots : List ℕ) (nodes : List Node) (clauses : List 
   -- the call of the step itself
   over_here : (o : sums.Over) → IsOver (state_of p) (Some (Farkas ls ms)) o → farkas_clause p.nodes (length nodes) ls ms ≡ Leaves o
   over_here o (ls', ms', e, ns, is, f) =
-      let same : ns ≡ p.nodes = some_is (sym is ∙ h.nodes) in
-      let one : ls' ≡ ls = first (some_is e) in
-      let two : ms' ≡ ms = second (some_is e) in
+      let same : ns ≡ p.nodes = same_Some _ _ (sym is ∙ h.nodes) in
+      let one : ls' ≡ ls = first (same_Some _ _ e) in
+      let two : ms' ≡ ms = second (same_Some _ _ e) in
       any_width p.nodes (length nodes) wide ls ms
       ∙ ap (λ l. farkas_clause p.nodes (length p.nodes) l ms) (sym one) ∙ ap (λ m. farkas_clause p.nodes (length p.nodes) ls' m) (sym two) ∙ ap (λ n. farkas_clause n (length n) ls' ms') (sym same) ∙ f
     where

@@ -4,7 +4,7 @@ use Rattle.vx_terms.specs.Terms.{Term}
 use Rattle.std.proofs.lemmas.List.{length-map}
 use Rattle.cs_table.specs.Views.{node, nodes}
 use Rattle.cs_table.specs.declared.node.Node.{Node}
-use Rattle.cs_nodes.specs.Steps.{◌>>=◌}
+use Rattle.cs_certificate.specs.Steps.{◌>>=◌}
 
 abbrev pub with_front : {A : Type 0} → List A → Option (List A) → Option (List A)
 with_front xs o = o >>= λ ys. Some (xs ++ ys)

@@ -4,25 +4,25 @@ use Rattle.std.specs.Prelude.{slice_get, if◌then◌else◌, ◌↔◌}
 use Rattle.std.specs.List.{list_any}
 use Rattle.std.specs.Option.{option_map}
 use Rattle.std.proofs.lemmas.List.{length-append}
-use Rattle.std.proofs.lemmas.Option.{slice_get-get_or}
+use Rattle.std.proofs.lemmas.Option.{slice_get-get_or, same_Some}
 use Rattle.vx_terms.specs.Terms.{Term, Truth, same}
 use Rattle.vx_terms.specs.Interpretations.{Each}
 use Rattle.vx_terms.proofs.Same.{term_is}
 use Rattle.cs_certificate.specs.Terms.{parts_of}
 use Rattle.cs_certificate.specs.Certificate.{Stack, State, start, At, AllAt, no-terms, one-term, Contains, Step}
-use Rattle.cs_nodes.specs.Nodes.{Node, Represents}
-use Rattle.cs_nodes.specs.Steps.{◌>>=◌, ComputesSteps}
-use Rattle.cs_nodes.proofs.Chains.{bind_some, chain_computes, congruence_computes}
-use Rattle.cs_nodes.proofs.Comparisons.{split_computes, trichotomy_computes}
-use Rattle.cs_nodes.proofs.Picks.{pick_computes}
-use Rattle.cs_nodes.proofs.Divisions.{divide_computes}
-use Rattle.cs_nodes.proofs.Definitions.{define_computes}
+use Rattle.cs_certificate.specs.Nodes.{Node, Represents}
+use Rattle.cs_certificate.specs.Steps.{◌>>=◌, ComputesSteps}
+use Rattle.cs_certificate.proofs.Chains.{bind_some, chain_computes, congruence_computes}
+use Rattle.cs_certificate.proofs.Comparisons.{split_computes, trichotomy_computes}
+use Rattle.cs_certificate.proofs.Picks.{pick_computes}
+use Rattle.cs_certificate.proofs.Divisions.{divide_computes}
+use Rattle.cs_certificate.proofs.Definitions.{define_computes}
 use Rattle.cs_numbers.specs.Numbering.{place, places, nodes_of, nodes_after, added}
 use Rattle.cs_numbers.specs.Laws.{IsSorted, IsTable, of_assertions}
 use Rattle.cs_numbers.proofs.Added.{added_distinct}
-use Rattle.cs_hints.specs.declared.Literal.{Literal}
-use Rattle.cs_hints.specs.declared.Clause.{Clause as Clause'}
-use Rattle.cs_hints.specs.Bridge.{term_at, views, IsNumbered, AreDistinct}
+use Rattle.cs_certificate.specs.declared.literal.Literal.{Literal}
+use Rattle.cs_certificate.specs.declared.literal.Clause.{Clause as Clause'}
+use Rattle.cs_certificate.specs.Bridge.{term_at, views, IsNumbered, AreDistinct}
 use Rattle.cs_farkas.specs.Sums.{Outcome, Done, Leaves, Misses}
 use Rattle.cs_farkas.specs.Sums as sums
 use Rattle.cs_proof.specs.Prepared.{Duty}
@@ -37,9 +37,6 @@ use Rattle.cs_proof.proofs.Answered.{Scene, fate_of}
 use Rattle.cs_proof.proofs.Only.{From, Ahead, passes, stops, exceeds, AtEnd, finished, not_empty, one_over, answers_from}
 use Rattle.cs_proof.proofs.Only as only
 use Rattle.cs_proof.proofs.Verdicts.{verdict_stepped, at_end, refused_is, stepped_to}
-
-some_is : {A : Type 0} {x y : A} → Some x ≡ Some y → x ≡ y
-some_is e = cc
 
 -- the literals of clauses
 abbrev pub literals : List Clause' → List (List Literal)
@@ -86,7 +83,7 @@ empty_nowhere terms (c ∷ cs) e (n, f) = go (is_empty c) refl e n f (empty_nowh
   where
     go : (b : Bool) → is_empty c ≡ b → b || list_any is_empty cs ≡ false → (n : ℕ) → At (map (views terms) (literals (c ∷ cs))) n [] → (list_any is_empty cs ≡ false → Contains (map (views terms) (literals cs)) [] → ⊥) → ⊥
     go true g e n f h = cc
-    go false g e zero f h = viewed_nil terms c.literals.items g (some_is f)
+    go false g e zero f h = viewed_nil terms c.literals.items g (same_Some _ _ f)
     go false g e (suc n) f h = h e (n, f)
 
 -- ---- one step more holds
@@ -176,7 +173,7 @@ module _ (stack : Stack) (roots : List ℕ) (q : Plans) (c : Checker) (g : Whole
   pub answer_from : (ws : List (Option Step)) (p : Plans) (before : List (Option Step)) → Stands stack roots p → Holds stack (start stack) before (state_of p) → length p.duties ≡ length before →
       planned_all stack.symbols roots p ws ≡ Some q → Answers stack (before ++ ws) (verdict (at_state p))
   answer_from [] p before h k count e =
-      let is : p ≡ q = some_is e in
+      let is : p ≡ q = same_Some _ _ e in
       let past : length c.duties ≤ length p.duties = (let f : length c.duties ≡ length p.duties = ap length (g.duties ∙ ap (λ x. x.duties) (sym is)) in omega arith) in
       subst (λ l. Answers stack l (verdict (at_state p))) (sym (append-nil before))
       (subst (Answers stack before) (sym (at_end (at_state p) past)) (go (list_any is_empty c.clauses) refl (ended p before is k)))
@@ -223,7 +220,7 @@ module _ (stack : Stack) (roots : List ℕ) (q : Plans) (c : Checker) (g : Whole
 
   pub only_from : (ws : List (Option Step)) (p : Plans) → Stands stack roots p → planned_all stack.symbols roots p ws ≡ Some q → (v : Verdict) → From stack (length p.duties) (state_of p) ws v → v ≡ verdict (at_state p)
   only_from [] p h e v f =
-      let is : p ≡ q = some_is e in
+      let is : p ≡ q = same_Some _ _ e in
       let past : length c.duties ≤ length p.duties = (let f : length c.duties ≡ length p.duties = ap length (g.duties ∙ ap (λ x. x.duties) (sym is)) in omega arith) in
       only_end p is v (only.at_end stack (length p.duties) (state_of p) v f) (list_any is_empty c.clauses) refl ∙ sym (at_end (at_state p) past)
   only_from (w ∷ ws) p h e v f =
@@ -238,18 +235,18 @@ place_at (u ∷ us) t k e = go (same t u) refl e (place_at us t)
   where
     later : (o : Option ℕ) → ((j : ℕ) → o ≡ Some j → At us j t) → option_map suc o ≡ Some k → At (u ∷ us) k t
     later None f e = cc
-    later (Some j) f e = let is : suc j ≡ k = some_is e in subst (λ x. At (u ∷ us) x t) is (f j refl)
+    later (Some j) f e = let is : suc j ≡ k = same_Some _ _ e in subst (λ x. At (u ∷ us) x t) is (f j refl)
 
     go : (b : Bool) → same t u ≡ b → (if b then Some 0 else option_map suc (place us t)) ≡ Some k → ((j : ℕ) → place us t ≡ Some j → At us j t) → At (u ∷ us) k t
-    go true f e h = let is : 0 ≡ k = some_is e in subst (λ x. At (u ∷ us) x t) is (ap Some (sym (term_is t u f)))
+    go true f e h = let is : 0 ≡ k = same_Some _ _ e in subst (λ x. At (u ∷ us) x t) is (ap Some (sym (term_is t u f)))
     go false f e h = later (place us t) h e
 
 places_at : (terms ts : List Term) (ns : List ℕ) → places terms ts ≡ Some ns → AllAt terms ns ts
-places_at terms [] ns e = subst (λ l. AllAt terms l []) (some_is e) no-terms
+places_at terms [] ns e = subst (λ l. AllAt terms l []) (same_Some _ _ e) no-terms
 places_at terms (t ∷ ts) ns e =
     let b = bind_some (place terms t) (λ n. places terms ts >>= λ ns. Some (n ∷ ns)) ns e in
     let d = bind_some (places terms ts) (λ ns. Some (b.0 ∷ ns)) ns b.2 in
-    subst (λ l. AllAt terms l (t ∷ ts)) (some_is d.2) (one-term (place_at terms t b.0 b.1) (places_at terms ts d.0 d.1))
+    subst (λ l. AllAt terms l (t ∷ ts)) (same_Some _ _ d.2) (one-term (place_at terms t b.0 b.1) (places_at terms ts d.0 d.1))
 
 pub whole_answer : (stack : Stack) (ws : List (Option Step)) (q : Plans) (c : Checker) → Each IsSorted stack.assertions → plans_of stack ws ≡ Some q →
     ((roots : List ℕ) → Whole stack roots q c) → c.done ≡ 0 → c.derived ≡ 0 → c.refusal ≡ None → (v : Verdict) → Answers stack ws v ↔ (v ≡ verdict c)
@@ -260,7 +257,7 @@ whole_answer stack ws q c sorted e g d1 d2 d3 v =
     let y = bind_some (places ts stack.assertions) (λ roots. Some (roots, record { terms = ts; nodes = x.0; duties = []; clauses = [] })) b.0 x.2 in
     let z = bind_some (nodes_of ts ts) (λ ns. Some ([] ++ ns)) x.0 x.1 in
     let p : Plans = record { terms = ts; nodes = x.0; duties = []; clauses = [] } in
-    let same : (y.0, p) ≡ b.0 = some_is y.2 in
+    let same : (y.0, p) ≡ b.0 = same_Some _ _ y.2 in
     let planned' : planned_all stack.symbols y.0 p ws ≡ Some q = ap (λ b. planned_all stack.symbols b.0 b.1 ws) same ∙ b.2 in
     let stands : Stands stack y.0 p = record {
       table = subst IsTable (sym (added_distinct (parts_of stack.assertions))) (of_assertions stack.assertions sorted);

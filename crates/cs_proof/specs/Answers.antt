@@ -2,7 +2,7 @@
 use Rattle.std.specs.Prelude.{◌≡◌, ℕ, List, [], ◌∷◌, ◌++◌, length, Option, Some}
 use Rattle.vx_frac.specs.Fractions.{Fraction}
 use Rattle.cs_certificate.specs.Certificate.{Stack, State, start, Step, Farkas, NumberedLiteral, Leads, Contains}
-use Rattle.cs_nodes.specs.Nodes.{Node}
+use Rattle.cs_certificate.specs.Nodes.{Node}
 use Rattle.cs_numbers.specs.Numbering.{nodes_of}
 use Rattle.cs_farkas.specs.Sums.{Leaves}
 use Rattle.cs_farkas.specs.Sums as sums

@@ -1,10 +1,10 @@
 -- What a checker does in each step, and its verdict.
 use Rattle.std.specs.Prelude.{ℕ, zero, suc, ◌-◌, Bool, true, false, if◌then◌else◌, List, [], ◌∷◌, length, take, Option, Some, None, slice_get}
 use Rattle.std.specs.List.{list_any}
-use Rattle.cs_nodes.specs.Nodes.{Node}
-use Rattle.cs_hints.specs.declared.Literal.{Literal}
-use Rattle.cs_hints.specs.declared.Clause.{Clause}
-use Rattle.cs_hints.specs.Hints as hints
+use Rattle.cs_certificate.specs.Nodes.{Node}
+use Rattle.cs_certificate.specs.declared.literal.Literal.{Literal}
+use Rattle.cs_certificate.specs.declared.literal.Clause.{Clause}
+use Rattle.cs_certificate.specs.Hints as hints
 use Rattle.cs_farkas.specs.Sums.{Outcome, Done, Leaves, Misses, ◌>>=◌}
 use Rattle.cs_farkas.specs.Sums as sums
 use Rattle.cs_farkas.specs.Rows.{refutes}

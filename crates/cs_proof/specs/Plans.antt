@@ -5,11 +5,11 @@ use Rattle.vx_terms.specs.Terms.{Term}
 use Rattle.vx_smt_meaning.specs.Commands.{Declared}
 use Rattle.cs_certificate.specs.Terms.{subterms, parts_of}
 use Rattle.cs_certificate.specs.Certificate.{Step, NewTerm, Stack}
-use Rattle.cs_nodes.specs.Nodes.{Node}
-use Rattle.cs_nodes.specs.Steps.{◌>>=◌}
+use Rattle.cs_certificate.specs.Nodes.{Node}
+use Rattle.cs_certificate.specs.Steps.{◌>>=◌}
 use Rattle.cs_numbers.specs.Numbering.{added, nodes_after, places}
 use Rattle.cs_sorts.specs.Sorting.{sort_in, is_live}
-use Rattle.cs_hints.specs.declared.Literal.{Literal}
+use Rattle.cs_certificate.specs.declared.literal.Literal.{Literal}
 use Rattle.cs_proof.specs.Prepared.{Duty, Named, Missed, prepared}
 
 pub record Plans : Type 0 where

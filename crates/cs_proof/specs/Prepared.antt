@@ -4,10 +4,10 @@ use Rattle.std.specs.List.{list_all}
 use Rattle.vx_frac.specs.Fractions.{Fraction}
 use Rattle.vx_terms.specs.Sorts.{BoolSort, same_sort}
 use Rattle.cs_certificate.specs.Certificate.{Sign, Plain, Negated, NumberedLiteral, Step, Input, Define, Pick, Chain, Congruence, Farkas, Split, Trichotomy, Divide, Propagate}
-use Rattle.cs_nodes.specs.Nodes.{Node}
-use Rattle.cs_nodes.specs.Steps.{◌>>=◌, define_clause, pick_clause, chain_clause, congruence_clause, split_clause, trichotomy_clause, divide_clause}
+use Rattle.cs_certificate.specs.Nodes.{Node}
+use Rattle.cs_certificate.specs.Steps.{◌>>=◌, define_clause, pick_clause, chain_clause, congruence_clause, split_clause, trichotomy_clause, divide_clause}
 use Rattle.cs_numbers.specs.Numbering.{input_clause}
-use Rattle.cs_hints.specs.declared.Literal.{Literal}
+use Rattle.cs_certificate.specs.declared.literal.Literal.{Literal}
 use Rattle.cs_farkas.specs.Rows.{Combination, combination_of}
 
 -- a number of 32 bits; there are fewer terms

@@ -6,9 +6,9 @@ use Rattle.cs_certificate.specs.Certificate.{NumberedLiteral, Step, Input, NewTe
 use Rattle.cs_reader.specs.declared.step.Literal.{Literal as Literal'}
 use Rattle.cs_table.specs.Gives.{sign_of}
 use Rattle.cs_farkas.specs.Views.{combination}
-use Rattle.cs_hints.specs.declared.Literal.{Literal}
-use Rattle.cs_hints.specs.declared.Clause.{Clause}
-use Rattle.cs_hints.specs.Marks.{IsBelow}
+use Rattle.cs_certificate.specs.declared.literal.Literal.{Literal}
+use Rattle.cs_certificate.specs.declared.literal.Clause.{Clause}
+use Rattle.cs_certificate.specs.Marks.{IsBelow}
 use Rattle.cs_proof.specs.declared.step.Step.{Step as Step'}
 use Rattle.cs_proof.specs.declared.step.Step.TheVariants as steps'
 use Rattle.cs_proof.specs.declared.prepare.Duty.{Duty as Duty'}

@@ -1,11 +1,11 @@
 //! Numbers of 32 bits, and literals of numbered terms.
 ghost use Rattle.std.specs.Prelude.{◌≡◌, length, map, IfOk, All};
 ghost use Rattle.cs_table.specs.Gives.{Gives, clause};
-ghost use Rattle.cs_hints.specs.Marks.{IsBelow};
+ghost use Rattle.cs_certificate.specs.Marks.{IsBelow};
 ghost use Rattle.cs_proof.specs.Prepared as clean;
 ghost use Rattle.cs_proof.specs.Views.{numbered, IsFitClause};
 
-use cs_hints::Clause;
+use cs_certificate::Clause;
 use cs_table::{Literal, Stop};
 use std::alloc::{AllocError, Global};
 
@@ -91,12 +91,12 @@ fn negation(literal: &Literal) -> Literal
     }
 }
 
-fn literal_within(terms: usize, literal: &Literal) -> Result<cs_hints::Literal, Stop>
+fn literal_within(terms: usize, literal: &Literal) -> Result<cs_certificate::Literal, Stop>
     ensures value { Gives (λ l. l) result (clean.one_within terms (Rattle.cs_table.specs.Gives.numbered literal.now)) }
     ensures below { IfOk result (IsBelow terms) }
 {
     if (literal.number as usize) < terms {
-        Ok(cs_hints::Literal {
+        Ok(cs_certificate::Literal {
             positive: literal.positive,
             number: literal.number,
         })

@@ -14,7 +14,7 @@ ghost use Rattle.cs_proof.specs.Fits.{stand, Fits};
 
 use crate::prepare::{Duty, prepared};
 use crate::step::Step;
-use cs_hints::Clause;
+use cs_certificate::Clause;
 use cs_numbers::{NumberedTerms, add, extend, place_of};
 use cs_reader::Symbols;
 use cs_sorts::{is_live, sort_in};

@@ -8,14 +8,14 @@ ghost use Rattle.cs_numbers.specs.Numbering.{input_clause};
 ghost use Rattle.cs_table.specs.Table.{nodes_in};
 ghost use Rattle.cs_table.specs.Views.{nodes};
 ghost use Rattle.cs_table.specs.Gives.{Gives, clause};
-ghost use Rattle.cs_hints.specs.Marks.{IsBelow};
+ghost use Rattle.cs_certificate.specs.Marks.{IsBelow};
 ghost use Rattle.cs_proof.specs.Prepared as clean;
 ghost use Rattle.cs_proof.specs.Views.{written, numbered, duty, IsFit, IsFitClause};
 
 use crate::narrow::{clause_within, narrow, narrow_all, narrow_literals, saturated, turned};
 use crate::step::Step;
 use cs_farkas::{Combination, combination_of};
-use cs_hints::Clause;
+use cs_certificate::Clause;
 use cs_table::{
     Literal, Node, Stop, Table, chain, congruence, define, divide, pick, split, trichotomy,
 };

@@ -1,8 +1,8 @@
 -- A word has the key of each symbol that it spells.
 use Rattle.std.proofs.Common.{◌≡◌, ℕ, Bool, true, false, nat_eq, List, [], ◌∷◌, Option, Some, None, refl, sym, ap, ap₂, eqb-true}
 use Rattle.std.specs.Prelude.{if◌then◌else◌}
+use Rattle.std.proofs.lemmas.Bool.{and_parts}
 use Rattle.vx_terms.specs.Sorts.{Symbol, Standard, Function, Variable, Named, same_text}
-use Rattle.vx_terms.proofs.Same.{and_parts}
 use Rattle.cs_index.specs.Keys.{mixed}
 use Rattle.cs_index.specs.Found.{first, found}
 use Rattle.cs_reader.specs.Marks.{numeral}

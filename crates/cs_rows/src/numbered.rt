@@ -3,7 +3,7 @@
 use crate::names::{operator_text, put_symbol, sort_text};
 use crate::reading::{Written, certificate_of, term_of};
 use crate::told::{put_fraction, put_refusal};
-use cs_hints::Clause;
+use cs_certificate::Clause;
 use cs_numbers::{NumberedTerms, add, extend, nodes_of, number, place_of};
 use cs_proof::{Duty, Stack, Step, prepared, step_of};
 use cs_reader::{Certificate, SymbolIndex, Symbols};

@@ -1,13 +1,13 @@
 -- One step of conflict analysis.
-use Rattle.std.proofs.Common.{◌≡◌, ℕ, zero, suc, ◌+◌, ◌<◌, ◌≤◌, ◌⊎◌, inl, inr, Bool, true, false, List, [], ◌∷◌, ◌++◌, length, reverse, Some, None, refl, sym, ◌∙◌, subst, ap, arith}
+use Rattle.std.proofs.Common.{◌≡◌, ℕ, zero, suc, ◌+◌, ◌<◌, ◌≤◌, ◌⊎◌, inl, inr, true, false, List, [], ◌∷◌, ◌++◌, length, reverse, Some, None, refl, sym, ◌∙◌, subst, ap, arith}
 use Rattle.std.specs.List.{slice_get, Contains}
 use Rattle.std.proofs.lemmas.List.{reverse-append}
 use Rattle.std.proofs.lemmas.Option.{slice_get_within}
 use Rattle.std.proofs.lemmas.List.Elements.{All-weaker, All-contains}
-use Rattle.cs_hints.specs.declared.Literal.{Literal}
+use Rattle.cs_certificate.specs.declared.literal.Literal.{Literal}
 use Rattle.cs_search.specs.declared.Value.{Value}
 use Rattle.cs_search.specs.declared.Entry.{Entry}
-use Rattle.cs_hints.specs.declared.Clause.{Clause}
+use Rattle.cs_certificate.specs.declared.literal.Clause.{Clause}
 use Rattle.cs_search.specs.Assignment.{negated, FalseBefore, LeavesOnly, IsFalse, IsClosed, IsTrail}
 use Rattle.cs_search.specs.Extended.{IsConflict, AreClosed}
 use Rattle.cs_search.specs.Propagation.{IsDerived}
@@ -89,9 +89,6 @@ only_at v v' n l l' u u' ev el eu h =
     let Q : List Literal → Type 0 = λ x. LeavesOnly v' n x u in
     let R : Literal → Type 0 = λ x. LeavesOnly v' n l' x in
     subst R eu (subst Q el (subst P ev h))
-
-pub contradicted : {b : Bool} → b ≡ false → b ≡ true → ⊥
-contradicted f t = cc
 
 -- a closed clause isn't false
 pub closed_not_false : (values : List Value) (n : ℕ) (c : List Literal) → IsClosed values n c → ¬ (IsFalse values n c)

@@ -1,13 +1,10 @@
 -- Filters and counts.
 use Rattle.std.proofs.Common.{◌≡◌, ℕ, zero, suc, ◌+◌, ◌<◌, ◌≤◌, ◌⊎◌, inl, inr, Bool, true, false, cond, ◌&&◌, List, [], ◌∷◌, refl, sym, ◌∙◌, subst, ap, ap₂, arith}
 use Rattle.std.specs.List.{Contains, filter}
+use Rattle.std.proofs.lemmas.Bool.{cases_Bool}
 use Rattle.cs_search.specs.Learned.{count_below}
 use Rattle.cs_search.proofs.Statuses.{same_atom}
 use Rattle.cs_search.proofs.Added.{contains_nothing, contains_here, contains_there, contains_split}
-
-pub bool_cases : (b : Bool) → (b ≡ true) ⊎ (b ≡ false)
-bool_cases true = inl refl
-bool_cases false = inr refl
 
 pub both_true : (a b : Bool) → a && b ≡ true → (a ≡ true) × (b ≡ true)
 both_true true b e = (refl, e)
@@ -29,7 +26,7 @@ filter_has {X = X} p (x ∷ xs) m h t =
     let P : List X → Type 0 = λ ys. Contains ys m in
     elim (contains_split x xs m h) [
       | inl e ↦ let Q : X → Type 0 = λ y. Contains (x ∷ filter p xs) y in subst P (sym (filter_yes p x xs (ap p e ∙ t))) (subst Q e (contains_here x (filter p xs)))
-      | inr r ↦ elim (bool_cases (p x)) [
+      | inr r ↦ elim (cases_Bool (p x)) [
         | inl y ↦ subst P (sym (filter_yes p x xs y)) (contains_there x (filter p xs) m (filter_has p xs m r t))
         | inr n ↦ subst P (sym (filter_no p x xs n)) (filter_has p xs m r t)
       ]
@@ -39,7 +36,7 @@ pub filter_only : {X : Type 0} (p : X → Bool) (xs : List X) (m : X) → Contai
 filter_only p [] m h = absurd (contains_nothing m h)
 filter_only {X = X} p (x ∷ xs) m h =
     let P : List X → Type 0 = λ ys. Contains ys m in
-    elim (bool_cases (p x)) [
+    elim (cases_Bool (p x)) [
       | inl y ↦ elim (contains_split x (filter p xs) m (subst P (filter_yes p x xs y) h)) [
         | inl e ↦ let Q : X → Type 0 = λ z. Contains (x ∷ xs) z in (subst Q e (contains_here x xs), ap p (sym e) ∙ y)
         | inr r ↦ let w = filter_only p xs m r in (contains_there x xs m w.0, w.1)
@@ -68,7 +65,7 @@ count_flip f g p (suc k) lt off on rest = elim (same_atom p k) [
       let n : ¬ (p ≡ k) = ne in
       let more = count_flip f g p k (omega arith) off on rest in
       let here = rest k (λ x. ne (sym x)) in
-      elim (bool_cases (f k)) [
+      elim (cases_Bool (f k)) [
         | inl y ↦ count_yes g k (here ∙ y) ∙ ap (λ n. suc n) (more ∙ sym (count_yes f k y))
         | inr n ↦ count_no g k (here ∙ n) ∙ (more ∙ ap (λ n. suc n) (sym (count_no f k n)))
       ]
@@ -78,14 +75,14 @@ pub count_le : (f : ℕ → Bool) (k : ℕ) → count_below f k ≤ k
 count_le f zero = omega arith
 count_le f (suc k) =
     let h = count_le f k in
-    elim (bool_cases (f k)) [
+    elim (cases_Bool (f k)) [
       | inl y ↦ let e = count_yes f k y in omega (arith, e, h)
       | inr n ↦ let e = count_no f k n in omega (arith, e, h)
     ]
 
 pub count_none : (f : ℕ → Bool) (k : ℕ) → count_below f k ≡ 0 → (j : ℕ) → j < k → f j ≡ false
 count_none f zero e j lt = absurd (omega arith)
-count_none f (suc k) e j lt = elim (bool_cases (f k)) [
+count_none f (suc k) e j lt = elim (cases_Bool (f k)) [
   | inl y ↦ absurd (let x : 0 ≡ suc (count_below f k) = sym e ∙ count_yes f k y in omega arith)
   | inr n ↦ elim (same_atom j k) [
     | inl s ↦ ap f s ∙ n
@@ -95,7 +92,7 @@ count_none f (suc k) e j lt = elim (bool_cases (f k)) [
 
 pub count_some : (f : ℕ → Bool) (k : ℕ) → 0 < count_below f k → (j : ℕ) × (j < k) × (f j ≡ true)
 count_some f zero lt = absurd (omega arith)
-count_some f (suc k) lt = elim (bool_cases (f k)) [
+count_some f (suc k) lt = elim (cases_Bool (f k)) [
   | inl y ↦ (k, omega arith, y)
   | inr n ↦
       let e = count_no f k n in

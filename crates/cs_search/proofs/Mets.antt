@@ -4,8 +4,9 @@ use Rattle.std.specs.List.{slice_get, All, Contains}
 use Rattle.std.proofs.lemmas.Bool.Decides.{Decides-ltb, nat_tests}
 use Rattle.std.proofs.lemmas.List.{length-set, length-replicate, take_more}
 use Rattle.std.proofs.lemmas.List.Elements.{All-contains, All-weaker, Contains-push, Contains-push_cases, Contains-append_left}
-use Rattle.cs_hints.specs.declared.Literal.{Literal}
-use Rattle.cs_hints.specs.declared.Clause.{Clause}
+use Rattle.std.proofs.lemmas.Bool.{cases_Bool}
+use Rattle.cs_certificate.specs.declared.literal.Literal.{Literal}
+use Rattle.cs_certificate.specs.declared.literal.Clause.{Clause}
 use Rattle.cs_search.specs.declared.Value.{Value}
 use Rattle.cs_search.specs.declared.Value.TheVariants.{Unset, Positive, Negative}
 use Rattle.cs_search.specs.declared.Status.{Status}
@@ -22,7 +23,7 @@ use Rattle.cs_search.proofs.Statuses.{same_atom, false_negated, true_negated, li
 use Rattle.cs_search.proofs.Added.{contains_nothing, contains_one, contains_here, contains_there, contains_split, contains_map, map_contains, all_from}
 use Rattle.cs_search.proofs.Resolution.{refutes_more, false_lower}
 use Rattle.cs_search.proofs.Analyses.{not_contained, learned_at, resolved_on, reduced_skip, reduced_on, first_resolved, first_reduced}
-use Rattle.cs_search.proofs.Counts.{bool_cases, both_true, second_false, filter_has, filter_only, count_one, count_pass, count_no, count_same, count_flip, count_le, count_none, count_some}
+use Rattle.cs_search.proofs.Counts.{both_true, second_false, filter_has, filter_only, count_one, count_pass, count_no, count_same, count_flip, count_le, count_none, count_some}
 
 status_before : (k : ℕ) (s : Status) → is_false_before k s ≡ true → (p : ℕ) × (p < k) × (s ≡ False p)
 status_before k Unassigned e = cc
@@ -96,7 +97,7 @@ late_is trail marks start j t =
     (le_is start j w.0, met_some marks (slice_get trail j) w.1)
 
 late_early : (trail : List Entry) (marks : List Bool) (start j : ℕ) → j < start → is_late trail marks start j ≡ false
-late_early trail marks start j lt = elim (bool_cases (nat_le start j)) [
+late_early trail marks start j lt = elim (cases_Bool (nat_le start j)) [
   | inl y ↦ absurd (let h : start ≤ j = le_is start j y in omega arith)
   | inr n ↦ ap (λ b. b && is_met marks (slice_get trail j)) n
 ]
@@ -280,7 +281,7 @@ walked_alone clauses made start k e a t le at on one h =
     ]))
   where
     early : (m : Literal) (p : ℕ) → p < k → status_of made.values.items m ≡ False p → Contains a.met.items m → count_below (is_late made.trail.items a.marks.items start) k ≡ 0 → p < start
-    early m p lt is x none = elim (bool_cases (nat_le start p)) [
+    early m p lt is x none = elim (cases_Bool (nat_le start p)) [
       | inl y ↦
           let w = made_by clauses made.values.items made.trail.items m p t is in
           let n : w.0.literal.number ≡ m.number = ap (λ z. z.number) w.2 in
@@ -448,7 +449,7 @@ met_none made start k a n en em ek el =
 
     blank : (n : ℕ) (o : Option Entry) → is_met (replicate n false) o ≡ false
     blank n None = refl
-    blank n (Some x) = elim (bool_cases (is_mark (slice_get (replicate n false) x.literal.number))) [
+    blank n (Some x) = elim (cases_Bool (is_mark (slice_get (replicate n false) x.literal.number))) [
       | inl y ↦ absurd (unset n x.literal.number (mark_some (slice_get (replicate n false) x.literal.number) y))
       | inr off ↦ off
     ]

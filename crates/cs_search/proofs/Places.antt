@@ -4,7 +4,7 @@ use Rattle.std.specs.declared.alloc.Global.{Global}
 use Rattle.std.specs.List.{slice_get}
 use Rattle.std.proofs.lemmas.Option.{slice_get_read, slice_get_within, slice_get_past}
 use Rattle.std.proofs.lemmas.List.{length-set, length-append}
-use Rattle.cs_hints.specs.declared.Literal.{Literal}
+use Rattle.cs_certificate.specs.declared.literal.Literal.{Literal}
 use Rattle.cs_search.specs.Rows.{Rows, items_or, row, slot_of, slot, Has, IsPut, IsWithout, IsTaken}
 use Rattle.cs_search.proofs.Gets.{get_set_same, get_set_other, get_push_old, get_push_new, get_push_cases}
 use Rattle.cs_search.proofs.Statuses.{same_atom, literal_eq}

@@ -3,10 +3,10 @@ use Rattle.std.proofs.Common.{◌≡◌, ℕ, zero, suc, ◌⊎◌, inl, inr, Bo
 use Rattle.std.specs.List.{All, Contains}
 use Rattle.std.proofs.lemmas.Bool.{eqb-true, and_parts, or_cases}
 use Rattle.vx_terms.specs.Terms.{same_bool}
-use Rattle.cs_hints.specs.declared.Literal.{Literal}
-use Rattle.cs_hints.specs.declared.Left.TheVariants.{Nothing, One, Many}
-use Rattle.cs_hints.specs.declared.Clause.{Clause}
-use Rattle.cs_hints.specs.Hints.{opposite, denied, with, left, after, at_hint, refutes}
+use Rattle.cs_certificate.specs.declared.literal.Literal.{Literal}
+use Rattle.cs_certificate.specs.declared.literal.Left.TheVariants.{Nothing, One, Many}
+use Rattle.cs_certificate.specs.declared.literal.Clause.{Clause}
+use Rattle.cs_certificate.specs.Hints.{opposite, denied, with, left, after, at_hint, refutes}
 use Rattle.cs_search.specs.Assignment.{negated}
 use Rattle.cs_search.specs.Propagation.{Denied, Refutes, ends, forces, IsDerived}
 

@@ -4,12 +4,12 @@ use Rattle.std.specs.List.{slice_get, All}
 use Rattle.std.proofs.lemmas.Option.{slice_get_within}
 use Rattle.std.proofs.lemmas.List.{length-set}
 use Rattle.std.proofs.lemmas.List.Elements.{All-cons, All-head, All-tail, All-nil}
-use Rattle.cs_hints.specs.declared.Literal.{Literal}
+use Rattle.cs_certificate.specs.declared.literal.Literal.{Literal}
 use Rattle.cs_search.specs.declared.Value.{Value}
 use Rattle.cs_search.specs.declared.Value.TheVariants.{Unset, Positive, Negative}
 use Rattle.cs_search.specs.declared.Status.TheVariants.{True, False}
 use Rattle.cs_search.specs.declared.Entry.{Entry}
-use Rattle.cs_hints.specs.declared.Clause.{Clause}
+use Rattle.cs_certificate.specs.declared.literal.Clause.{Clause}
 use Rattle.cs_meter.specs.declared.Meter.{Meter}
 use Rattle.cs_meter.specs.Units.{limit}
 use Rattle.cs_search.specs.declared.search.Turn.{Turn}

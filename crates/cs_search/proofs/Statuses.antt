@@ -3,7 +3,7 @@ use Rattle.std.proofs.Common.{◌≡◌, ℕ, ◌<◌, ◌⊎◌, inl, inr, Bool
 use Rattle.std.specs.List.{slice_get}
 use Rattle.std.proofs.lemmas.Option.{slice_get_within}
 use Rattle.std.proofs.lemmas.Bool.Decides.{Decides-eqb}
-use Rattle.cs_hints.specs.declared.Literal.{Literal}
+use Rattle.cs_certificate.specs.declared.literal.Literal.{Literal}
 use Rattle.cs_search.specs.declared.Value.{Value}
 use Rattle.cs_search.specs.declared.Value.TheVariants.{Unset, Positive, Negative}
 use Rattle.cs_search.specs.declared.Status.{Status}

@@ -4,12 +4,12 @@ use Rattle.std.specs.List.{slice_get, Contains}
 use Rattle.std.proofs.lemmas.Option.{slice_get_within}
 use Rattle.std.proofs.lemmas.List.{take-append-le, length-append}
 use Rattle.std.proofs.lemmas.List.Elements.{All-weaker}
-use Rattle.cs_hints.specs.declared.Literal.{Literal}
+use Rattle.cs_certificate.specs.declared.literal.Literal.{Literal}
 use Rattle.cs_search.specs.declared.Value.{Value}
 use Rattle.cs_search.specs.declared.Value.TheVariants.{Unset}
 use Rattle.cs_search.specs.declared.Status.TheVariants.{True, False}
 use Rattle.cs_search.specs.declared.Entry.{Entry}
-use Rattle.cs_hints.specs.declared.Clause.{Clause}
+use Rattle.cs_certificate.specs.declared.literal.Clause.{Clause}
 use Rattle.cs_search.specs.Assignment.{negated, status_of, valued, FalseBefore, TrueBefore, LeavesOnly, IsTrail, IsForced, IsUnassigned}
 use Rattle.cs_search.proofs.Gets.{get_push_old, get_push_new, get_push_cases}
 use Rattle.cs_search.proofs.Statuses.{status_set_same, status_set_kept, status_set_cases, status_set_other, same_atom, false_negated, true_negated, negated_twice, place_by_atom, place_by_atom_false, atom_within, unset_now}

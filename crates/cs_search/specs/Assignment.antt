@@ -1,13 +1,13 @@
 -- The assignment: what a table of values says of literals and clauses.
 use Rattle.std.specs.Prelude.{◌≡◌, ℕ, ◌<◌, ◌⊎◌, Bool, true, false, not, List, Option, Some, None, slice_get}
 use Rattle.std.specs.List.{All, Contains}
-use Rattle.cs_hints.specs.declared.Literal.{Literal}
+use Rattle.cs_certificate.specs.declared.literal.Literal.{Literal}
 use Rattle.cs_search.specs.declared.Value.{Value}
 use Rattle.cs_search.specs.declared.Value.TheVariants.{Unset, Positive, Negative}
 use Rattle.cs_search.specs.declared.Status.{Status}
 use Rattle.cs_search.specs.declared.Status.TheVariants.{Unassigned, True, False}
 use Rattle.cs_search.specs.declared.Entry.{Entry}
-use Rattle.cs_hints.specs.declared.Clause.{Clause}
+use Rattle.cs_certificate.specs.declared.literal.Clause.{Clause}
 
 abbrev pub negated : Literal → Literal
 negated l = record { positive = not l.positive; number = l.number }

@@ -1,8 +1,8 @@
 -- Which literals of a clause are to be watched.
 use Rattle.std.specs.Prelude.{◌≡◌, ℕ, ◌+◌, ◌⊎◌, List, Option, Some, None, slice_get}
 use Rattle.std.specs.List.{All, Contains}
-use Rattle.cs_hints.specs.declared.Literal.{Literal}
-use Rattle.cs_hints.specs.declared.Clause.{Clause}
+use Rattle.cs_certificate.specs.declared.literal.Literal.{Literal}
+use Rattle.cs_certificate.specs.declared.literal.Clause.{Clause}
 use Rattle.cs_search.specs.declared.Value.{Value}
 use Rattle.cs_search.specs.declared.Status.TheVariants.{False}
 use Rattle.cs_search.specs.declared.choose.Choice.{Choice}

@@ -4,7 +4,7 @@ use Rattle.std.specs.List.{All}
 use Rattle.cs_search.specs.declared.Value.{Value}
 use Rattle.cs_search.specs.declared.Value.TheVariants.{Unset, Positive, Negative}
 use Rattle.cs_search.specs.declared.Entry.{Entry}
-use Rattle.cs_hints.specs.declared.Clause.{Clause}
+use Rattle.cs_certificate.specs.declared.literal.Clause.{Clause}
 use Rattle.cs_search.specs.Assignment.{IsTrail, IsFalse, IsClosed}
 
 abbrev pub is_unset : Value → Bool

@@ -1,8 +1,8 @@
 -- What is derived by hints is refuted along them, as the checker follows them.
 use Rattle.std.specs.Prelude.{◌≡◌, ℕ, true, List, map}
-use Rattle.cs_hints.specs.declared.Literal.{Literal}
-use Rattle.cs_hints.specs.declared.Clause.{Clause}
-use Rattle.cs_hints.specs.Hints.{refutes}
+use Rattle.cs_certificate.specs.declared.literal.Literal.{Literal}
+use Rattle.cs_certificate.specs.declared.literal.Clause.{Clause}
+use Rattle.cs_certificate.specs.Hints.{refutes}
 use Rattle.cs_search.specs.Assignment.{negated}
 use Rattle.cs_search.specs.Propagation.{IsDerived}
 

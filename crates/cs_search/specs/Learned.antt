@@ -1,12 +1,12 @@
 -- What a conflict teaches.
 use Rattle.std.specs.Prelude.{◌≡◌, ℕ, ◌<◌, ◌⊎◌, Bool, true, false, ◌&&◌, nat_lt, nat_le, cond, zero, suc, List, Option, Some, None, length, slice_get, reverse}
 use Rattle.std.specs.List.{Contains, filter}
-use Rattle.cs_hints.specs.declared.Literal.{Literal}
+use Rattle.cs_certificate.specs.declared.literal.Literal.{Literal}
 use Rattle.cs_search.specs.declared.Value.{Value}
 use Rattle.cs_search.specs.declared.Entry.{Entry}
 use Rattle.cs_search.specs.declared.Status.{Status}
 use Rattle.cs_search.specs.declared.Status.TheVariants.{Unassigned, True, False}
-use Rattle.cs_hints.specs.declared.Clause.{Clause}
+use Rattle.cs_certificate.specs.declared.literal.Clause.{Clause}
 use Rattle.cs_search.specs.declared.assignment.Assignment.{Assignment}
 use Rattle.cs_search.specs.declared.analyse.Analysis.{Analysis}
 use Rattle.cs_search.specs.Assignment.{status_of, LeavesOnly, IsFalse, BecameFalse}

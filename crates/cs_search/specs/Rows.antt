@@ -1,7 +1,7 @@
 -- Rows of numbers: for each literal the clauses that watch it.
 use Rattle.std.specs.Prelude.{◌≡◌, ℕ, ◌+◌, ◌*◌, ◌<◌, ◌≤◌, Bool, true, false, List, [], ◌∷◌, ◌++◌, Vec, Option, Some, None, length, slice_get}
 use Rattle.std.specs.declared.alloc.Global.{Global}
-use Rattle.cs_hints.specs.declared.Literal.{Literal}
+use Rattle.cs_certificate.specs.declared.literal.Literal.{Literal}
 
 abbrev pub Rows : Type 0
 Rows = List (Vec ℕ Global)

@@ -1,9 +1,9 @@
 -- A search: its clauses, how the derived ones were derived, and its assignment.
 use Rattle.std.specs.Prelude.{◌≡◌, ℕ, ◌<◌, ◌≤◌, ◌+◌, ◌⊎◌, List, [], ◌∷◌, ◌++◌, length, Some, slice_get, reverse}
-use Rattle.cs_hints.specs.declared.Literal.{Literal}
+use Rattle.cs_certificate.specs.declared.literal.Literal.{Literal}
 use Rattle.cs_search.specs.declared.Value.{Value}
 use Rattle.cs_search.specs.declared.Entry.{Entry}
-use Rattle.cs_hints.specs.declared.Clause.{Clause}
+use Rattle.cs_certificate.specs.declared.literal.Clause.{Clause}
 use Rattle.cs_search.specs.declared.search.Hints.{Hints}
 use Rattle.cs_search.specs.declared.search.Search.{Search}
 use Rattle.cs_search.specs.declared.search.Solved.{Solved}

@@ -1,7 +1,7 @@
 -- The literal of a false clause that was made false last.
 use Rattle.std.specs.Prelude.{◌≡◌, List, [], Option, Some, None}
 use Rattle.std.specs.List.{Contains}
-use Rattle.cs_hints.specs.declared.Literal.{Literal}
+use Rattle.cs_certificate.specs.declared.literal.Literal.{Literal}
 use Rattle.cs_search.specs.declared.Value.{Value}
 use Rattle.cs_search.specs.declared.Status.TheVariants.{False}
 use Rattle.cs_search.specs.declared.learn.Top.{Top}

@@ -1,8 +1,8 @@
 //! Conflict analysis, to the first clause with one literal of the last level.
 ghost use Rattle.std.specs.Prelude.{◌≡◌, [], ◌∷◌, ◌++◌, ◌<◌, ◌≤◌, ◌+◌, ◌⊎◌, ◌↔◌, IsTrue, List, OnOk, IfOk, IfSome, IfNone, length, reverse, Some, None, ℕ, true};
 ghost use Rattle.std.specs.List.{All, Contains, slice_get};
-ghost use Rattle.cs_hints.specs.declared.Literal.{Literal};
-ghost use Rattle.cs_hints.specs.declared.Clause.{Clause};
+ghost use Rattle.cs_certificate.specs.declared.literal.Literal.{Literal};
+ghost use Rattle.cs_certificate.specs.declared.literal.Clause.{Clause};
 ghost use Rattle.cs_search.specs.declared.Status.TheVariants.{False};
 ghost use Rattle.cs_search.specs.Assignment.{status_of, IsTrail, FalseBefore, LeavesOnly, BecameFalse};
 ghost use Rattle.cs_search.specs.Extended.{AreClosed, IsConflict};

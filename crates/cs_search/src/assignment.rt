@@ -1,7 +1,7 @@
 //! The assignment: a table of values, and the trail of what made them.
 ghost use Rattle.std.specs.Prelude.{◌≡◌, ◌<◌, ◌≤◌, ◌++◌, ◌∷◌, [], List, OnOk, take, length, slice_set};
 ghost use Rattle.cs_search.specs.Assignment.{IsTrail, valued};
-ghost use Rattle.cs_hints.specs.declared.Clause.{Clause};
+ghost use Rattle.cs_certificate.specs.declared.literal.Clause.{Clause};
 
 use crate::{Clause, Entry, Literal, Value};
 use std::alloc::AllocError;

@@ -1,7 +1,7 @@
 //! Which literals of a clause are to be watched.
 ghost use Rattle.std.specs.Prelude.{◌≡◌, ℕ, ◌⊎◌, ◌++◌, ◌∷◌, [], true, false, List, Some};
 ghost use Rattle.std.specs.List.{All, Contains};
-ghost use Rattle.cs_hints.specs.declared.Literal.{Literal};
+ghost use Rattle.cs_certificate.specs.declared.literal.Literal.{Literal};
 ghost use Rattle.cs_search.specs.declared.Status.TheVariants.{True, False};
 ghost use Rattle.cs_search.specs.Assignment.{status_of, BecameFalse, NotFalse};
 ghost use Rattle.cs_search.specs.Chosen.{IsFree, IsSpare, IsLastFalse, IsChosen};

@@ -5,7 +5,7 @@ ghost use Rattle.cs_search.specs.Assignment.{IsTrail, IsFalse, IsClosed, FalseBe
 ghost use Rattle.cs_meter.specs.Units.{limit};
 ghost use Rattle.cs_search.specs.Search.{IsReady, AreSatisfied, IsUncovered};
 ghost use Rattle.cs_search.specs.Settled.{IsSettled, IsDecision, Forces};
-ghost use Rattle.cs_hints.specs.declared.Literal.{Literal};
+ghost use Rattle.cs_certificate.specs.declared.literal.Literal.{Literal};
 ghost use Rattle.cs_search.specs.Top.{IsTop};
 
 use crate::assignment::Assignment;

@@ -1,7 +1,7 @@
 //! Search for an assignment that satisfies clauses, with learning.
 #![tactic(auto)]
 
-pub use cs_hints::{Clause, Literal};
+pub use cs_certificate::{Clause, Literal};
 
 /// An atom's value, with its place on the trail.
 #[derive(Clone, Copy)]

@@ -1,7 +1,7 @@
 //! Unit propagation: each entry of the trail is walked, and the clauses that watch the literal that it made false are visited.
 ghost use Rattle.std.specs.Prelude.{◌≡◌, ℕ, ◌+◌, ◌<◌, ◌≤◌, ◌^◌, List, OnOk, IfOk, IfSome, IfNone, Some, length, slice_get, true, false};
 ghost use Rattle.std.specs.List.{All, Contains};
-ghost use Rattle.cs_hints.specs.declared.Clause.{Clause};
+ghost use Rattle.cs_certificate.specs.declared.literal.Clause.{Clause};
 ghost use Rattle.cs_search.specs.declared.Status.TheVariants.{False};
 ghost use Rattle.cs_search.specs.Assignment.{IsTrail, TrueBefore, status_of};
 ghost use Rattle.cs_search.specs.Extended.{AreKnown, IsExtended, IsConflict, AreClosed};

@@ -8,7 +8,7 @@ ghost use Rattle.cs_search.specs.Extended.{IsConflict, AreClosed, unset_count};
 ghost use Rattle.cs_search.specs.Search.{IsReady, Learns, IsSolved, IsRound, AreSet, AreSetFrom, AreSatisfied};
 ghost use Rattle.cs_search.specs.Learned.{IsLastDecision};
 ghost use Rattle.cs_search.specs.Settled.{IsDecision, HasReason, Forces};
-ghost use Rattle.cs_hints.specs.declared.Clause.{Clause};
+ghost use Rattle.cs_certificate.specs.declared.literal.Clause.{Clause};
 ghost use Rattle.cs_search.specs.Queued.{IsQueued};
 
 use crate::analyse::{analyse, refute};

@@ -3,6 +3,7 @@ use Rattle.std.proofs.Common.{◌≡◌, ℕ, zero, suc, nat_le, Bool, true, fal
 use Rattle.std.proofs.Math.Logic.{∥∥₁_map, ∥∥₁_elim}
 use Rattle.std.specs.Global.{Vec}
 use Rattle.std.specs.declared.result.Result.{Result}
+use Rattle.std.proofs.lemmas.Option.{same_Some}
 use Rattle.vx_sexp.specs.declared.token.Token.{Token}
 use Rattle.vx_sexp.specs.Tokens.{Lexes}
 use Rattle.vx_sexp.specs.First.{IsFirst}
@@ -25,7 +26,6 @@ use Rattle.cs_commands.specs.Following.{HasWord}
 use Rattle.cs_commands.proofs.Apart.{stay_apart, opened_declares, dropped_apart}
 use Rattle.cs_commands.proofs.Following.{understood_follows}
 use Rattle.cs_commands.proofs.OwnWords.{understood_named}
-use Rattle.cs_commands.proofs.Passed.{some_is}
 use Rattle.cs_text.specs.Text.{certificate_text}
 use Rattle.cs_writable.specs.Writable.{IsWritable, AreWritable}
 use Rattle.cs_text.specs.Law.{HaveWords, IsReadBack}
@@ -154,7 +154,7 @@ same_steps (x ∷ xs) [] e = absurd (cc)
 same_steps (x ∷ xs) (y ∷ ys) e =
     let head : Some x ≡ Some y = cc in
     let tail : map Some xs ≡ map Some ys = cc in
-    ap₂ (λ z zs. z ∷ zs) (some_is head) (same_steps xs ys tail)
+    ap₂ (λ z zs. z ∷ zs) (same_Some _ _ head) (same_steps xs ys tail)
 
 words_of : (s : State) → IsKept s → HaveWords (standing s.levels).symbols
 words_of s k = (apart_turned (declared_in s.levels) k.apart, each_reverse HasOwn (declared_in s.levels) k.own)

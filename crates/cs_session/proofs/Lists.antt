@@ -1,10 +1,11 @@
 -- What holds of each item, and lists with the newest item first.
-use Rattle.std.proofs.Common.{◌≡◌, ℕ, zero, suc, Bool, true, false, leb, ◌+◌, ◌-◌, ◌≤◌, List, [], ◌∷◌, ◌++◌, length, map, reverse, take, drop, Some, refl, sym, ap, ap₂, subst, arith, ◌∙◌, length-append, length-drop}
+use Rattle.std.proofs.Common.{◌≡◌, ℕ, zero, suc, Bool, true, false, leb, ◌+◌, ◌-◌, ◌≤◌, List, [], ◌∷◌, ◌++◌, length, map, reverse, take, drop, refl, sym, ap, ap₂, subst, arith, ◌∙◌, length-append, length-drop}
 use Rattle.std.proofs.Math.Nat.{le_of_lt}
 use Rattle.std.proofs.lemmas.Bool.{leb-true, leb-false}
 use Rattle.std.proofs.lemmas.List.{map-append, reverse-append, length-reverse, length-map, length-take-le, take-append-drop, take-map, take-take, take_all}
 use Rattle.std.proofs.Math.Seq.{drop-append_seam}
 use Rattle.std.proofs.Math.ListN.{drop_of_length-le}
+use Rattle.std.proofs.lemmas.Option.{same_Some}
 use Rattle.vx_terms.specs.Interpretations.{Each}
 use Rattle.cs_certificate.specs.Certificate.{Contains}
 
@@ -25,9 +26,6 @@ each_reverse P (x ∷ xs) h = subst (Each P) (sym (reverse-append (x ∷ []) xs)
 
 -- ---- what a list contains
 
-some_is : {A : Type 0} {x y : A} → Some x ≡ Some y → x ≡ y
-some_is e = cc
-
 contains_more : {A : Type 0} (xs ys : List A) (x : A) → Contains xs x → Contains (xs ++ ys) x
 contains_more [] ys x (n, e) = cc
 contains_more (y ∷ xs) ys x (zero, e) = (0, e)
@@ -39,7 +37,7 @@ contains_last (y ∷ xs) x = let w = contains_last xs x in (suc w.0, w.1)
 
 pub contains_reverse : {A : Type 0} (xs : List A) {x : A} → Contains xs x → Contains (reverse xs) x
 contains_reverse [] (n, e) = cc
-contains_reverse (y ∷ xs) {x = x} (zero, e) = subst (λ zs. Contains zs x) (sym (reverse-append (y ∷ []) xs)) (subst (Contains (reverse xs ++ y ∷ [])) (some_is e) (contains_last (reverse xs) y))
+contains_reverse (y ∷ xs) {x = x} (zero, e) = subst (λ zs. Contains zs x) (sym (reverse-append (y ∷ []) xs)) (subst (Contains (reverse xs ++ y ∷ [])) (same_Some _ _ e) (contains_last (reverse xs) y))
 contains_reverse (y ∷ xs) {x = x} (suc n, e) = subst (λ zs. Contains zs x) (sym (reverse-append (y ∷ []) xs)) (contains_more (reverse xs) (y ∷ []) x (contains_reverse xs (n, e)))
 
 -- ---- one more, and fewer

@@ -2,8 +2,9 @@
 use Rattle.std.proofs.Common.{◌≡◌, ℕ, suc, Bool, true, false, ◌||◌, is_some, List, [], ◌∷◌, Option, Some, None, refl, sym, ◌∙◌, ap}
 use Rattle.std.specs.Prelude.{if◌then◌else◌}
 use Rattle.std.specs.Option.{option_map}
+use Rattle.std.proofs.lemmas.Bool.{and_parts}
 use Rattle.vx_terms.specs.Sorts.{Sort, Symbol}
-use Rattle.vx_terms.proofs.Same.{and_parts, symbol_is}
+use Rattle.vx_terms.proofs.Same.{symbol_is}
 use Rattle.vx_smt_meaning.specs.Commands.{Declared}
 use Rattle.cs_index.specs.Found.{first, found}
 use Rattle.cs_reader.specs.Keys.{symbol_key}

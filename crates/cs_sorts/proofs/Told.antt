@@ -1,33 +1,28 @@
 -- The computed sort is the sort, and live symbols are told.
 use Rattle.std.proofs.Common.{◌≡◌, ℕ, zero, suc, ◌+◌, ◌≤◌, Bool, true, false, ◌&&◌, ◌||◌, List, [], ◌∷◌, map, Option, Some, None, ◌⊎◌, inl, inr, refl, sym, ◌∙◌, ap, ap₂, subst, arith, eq-eqb}
 use Rattle.std.specs.Prelude.{if◌then◌else◌}
+use Rattle.std.proofs.lemmas.Option.{same_Some}
+use Rattle.std.proofs.lemmas.Bool.{and_from, and_parts}
 use Rattle.vx_frac.specs.Fractions.{lowest}
 use Rattle.vx_terms.specs.Sorts.{Sort, IntSort, BoolSort, RealSort, Symbol, Standard, Function, Variable, Named, Operator, And, Or, Implies, Equal, Less, LessEqual, Add, Subtract, Multiply, Div, Mod, same_text, same_sort, same_symbol, Takes, gives}
 use Rattle.vx_terms.specs.Terms.{Term, Truth, Number, Part, Constant, Apply, Not, Binary, Ite, AllOf, SomeOf, Terms, NoTerms, MoreTerms, identical, sort_of}
 use Rattle.vx_terms.specs.Formed.{IsKnown, Formed, truth, number, part, constant, applies, nots, binary, ites, all_of, some_of, FormedAll, no_terms, more_terms, FormedBools, no_bools, more_bools}
-use Rattle.vx_terms.proofs.Same.{fraction_is, sort_is, symbol_is, and_parts}
+use Rattle.vx_terms.proofs.Same.{fraction_is, sort_is, symbol_is}
 use Rattle.vx_terms.proofs.Values.{fraction_same, formed_le, all_formed_le}
 use Rattle.vx_smt_meaning.specs.Commands.{Declared}
 use Rattle.cs_certificate.specs.Terms.{items, HasSort}
 use Rattle.cs_certificate.specs.Certificate.{Contains, Stack, AreLive, AllLive}
-use Rattle.cs_nodes.specs.Steps.{◌>>=◌, is_number_sort}
-use Rattle.cs_nodes.proofs.Heads.{sort_same}
+use Rattle.cs_certificate.specs.Steps.{◌>>=◌, is_number_sort}
+use Rattle.cs_certificate.proofs.Heads.{sort_same}
 use Rattle.cs_sorts.specs.Sorting.{takes, of_operands, of_choice, of_bool, sort_in, are_sorted, are_bools, same_sorts, is_declaration, declares, is_live, are_live}
 use Rattle.cs_sorts.specs.Laws.{TellsSorts, TellsLive}
-
-some_is : {A : Type 0} {x y : A} → Some x ≡ Some y → x ≡ y
-some_is e = cc
-
-and_true : (a b : Bool) → a ≡ true → b ≡ true → (a && b) ≡ true
-and_true true b e f = f
-and_true false b e f = e
 
 bound : {A B : Type 0} (o : Option A) (f : A → Option B) (y : B) → (o >>= f) ≡ Some y → (x : A) × (o ≡ Some x) × (f x ≡ Some y)
 bound None f y e = cc
 bound (Some x) f y e = (x, refl, e)
 
 chosen : {A : Type 0} (b : Bool) (x y : A) → (if b then Some x else None) ≡ Some y → (b ≡ true) × (x ≡ y)
-chosen true x y e = (refl, some_is e)
+chosen true x y e = (refl, same_Some _ _ e)
 chosen false x y e = cc
 
 -- ---- operators
@@ -92,15 +87,15 @@ bools_formed_le le (more_bools f fs) = more_bools (formed_le le f) (bools_formed
 -- ---- from the computed sort
 mutual
   to_sort : (t : Term) (a : Sort) → sort_in t ≡ Some a → HasSort t a
-  to_sort (Truth b) a e = subst (HasSort (Truth b)) (some_is e) (0, truth b)
-  to_sort (Number z) a e = subst (HasSort (Number z)) (some_is e) (0, number z)
+  to_sort (Truth b) a e = subst (HasSort (Truth b)) (same_Some _ _ e) (0, truth b)
+  to_sort (Number z) a e = subst (HasSort (Number z)) (same_Some _ _ e) (0, number z)
   to_sort (Part q) a e = let c = chosen (identical (lowest q) q) RealSort a e in subst (HasSort (Part q)) c.1 (0, part q (fraction_is (lowest q) q c.0))
-  to_sort (Constant f b) a e = let k = known f in subst (HasSort (Constant f b)) (some_is e) (k.0, constant f b k.1)
+  to_sort (Constant f b) a e = let k = known f in subst (HasSort (Constant f b)) (same_Some _ _ e) (k.0, constant f b k.1)
   to_sort (Apply f b ts) a e =
       let x = bound (are_sorted ts) _ a e in
       let k = known f in
       let h = to_sorted ts x.0 x.1 in
-      subst (HasSort (Apply f b ts)) (some_is x.2) (k.0 + h.0, applies f b (known_le k.0 (k.0 + h.0) f (left_most k.0 h.0) k.1) (all_formed_le (right_most k.0 h.0) h.1))
+      subst (HasSort (Apply f b ts)) (same_Some _ _ x.2) (k.0 + h.0, applies f b (known_le k.0 (k.0 + h.0) f (left_most k.0 h.0) k.1) (all_formed_le (right_most k.0 h.0) h.1))
   to_sort (Not t) a e =
       let x = bound (sort_in t) of_bool a e in
       let c = chosen (same_sort x.0 BoolSort) BoolSort a x.2 in
@@ -131,8 +126,8 @@ mutual
         ites (formed_le (left_most g.0 (h.0 + k.0)) test) (formed_le (right_most g.0 (h.0 + k.0)) (formed_le (left_most h.0 k.0) h.1))
             (formed_le (right_most g.0 (h.0 + k.0)) (formed_le (right_most h.0 k.0) right)),
       )
-  to_sort (AllOf ts) a e = let x = bound (are_bools ts) _ a e in let h = to_bools ts x.0 x.1 in subst (HasSort (AllOf ts)) (some_is x.2) (h.0, all_of h.1)
-  to_sort (SomeOf ts) a e = let x = bound (are_bools ts) _ a e in let h = to_bools ts x.0 x.1 in subst (HasSort (SomeOf ts)) (some_is x.2) (h.0, some_of h.1)
+  to_sort (AllOf ts) a e = let x = bound (are_bools ts) _ a e in let h = to_bools ts x.0 x.1 in subst (HasSort (AllOf ts)) (same_Some _ _ x.2) (h.0, all_of h.1)
+  to_sort (SomeOf ts) a e = let x = bound (are_bools ts) _ a e in let h = to_bools ts x.0 x.1 in subst (HasSort (SomeOf ts)) (same_Some _ _ x.2) (h.0, some_of h.1)
 
   to_sorted : (ts : Terms) (v : Unit {0}) → are_sorted ts ≡ Some v → (n : ℕ) × FormedAll n ts
   to_sorted NoTerms v e = (0, no_terms)
@@ -163,7 +158,7 @@ mutual
   from_sort (nots h) = ap (λ o. o >>= of_bool) (from_sort h)
   from_sort (binary {o = o} {t = t} {u = u} {a = a} g h i) =
       ap (λ x. x >>= λ p. (sort_in u >>= of_operands o p)) (from_sort h) ∙ ap (λ x. x >>= of_operands o a) (from_sort i)
-      ∙ ap (λ b. if b then Some (gives o a) else None) (and_true _ _ (takes_from o a g) (sort_same a))
+      ∙ ap (λ b. if b then Some (gives o a) else None) (and_from _ _ (takes_from o a g) (sort_same a))
   from_sort (ites {c = c} {t = t} {u = u} {a = a} g h i) =
       ap (λ x. x >>= λ w. (sort_in t >>= λ p. (sort_in u >>= of_choice w p))) (from_sort g)
       ∙ ap (λ x. x >>= λ p. (sort_in u >>= of_choice BoolSort p)) (from_sort h) ∙ ap (λ x. x >>= of_choice BoolSort a) (from_sort i)
@@ -185,7 +180,7 @@ tells_sorts t a = (to_sort t a, λ h. from_sort h.1)
 -- ---- declarations
 text_same : (x : List ℕ) → same_text x x ≡ true
 text_same [] = refl
-text_same (a ∷ x) = and_true _ _ (eq-eqb a a refl) (text_same x)
+text_same (a ∷ x) = and_from _ _ (eq-eqb a a refl) (text_same x)
 
 symbol_same : (f : Symbol) → same_symbol f f ≡ true
 symbol_same (Standard n) = eq-eqb n n refl
@@ -195,7 +190,7 @@ symbol_same (Named x) = text_same x
 
 sorts_same : (ss : List Sort) → same_sorts ss ss ≡ true
 sorts_same [] = refl
-sorts_same (a ∷ as') = and_true _ _ (sort_same a) (sorts_same as')
+sorts_same (a ∷ as') = and_from _ _ (sort_same a) (sorts_same as')
 
 sorts_are : (ss rs : List Sort) → same_sorts ss rs ≡ true → ss ≡ rs
 sorts_are [] [] e = refl
@@ -224,7 +219,7 @@ declares_to (d ∷ ds) f ss a e = go (is_declaration f ss a d) refl e (declares_
 declares_from : (ds : List Declared) (f : Symbol) (ss : List Sort) (a : Sort) → Contains ds (declaration f ss a) → declares ds f ss a ≡ true
 declares_from [] f ss a (n, e) = cc
 declares_from (d ∷ ds) f ss a (zero, e) =
-    ap (λ b. b || declares ds f ss a) (ap (is_declaration f ss a) (some_is e) ∙ and_true _ _ (symbol_same f) (and_true _ _ (sorts_same ss) (sort_same a)))
+    ap (λ b. b || declares ds f ss a) (ap (is_declaration f ss a) (same_Some _ _ e) ∙ and_from _ _ (symbol_same f) (and_from _ _ (sorts_same ss) (sort_same a)))
 declares_from (d ∷ ds) f ss a (suc n, e) = go (is_declaration f ss a d) (declares_from ds f ss a (n, e))
   where
     go : (b : Bool) → declares ds f ss a ≡ true → (b || declares ds f ss a) ≡ true
@@ -258,16 +253,16 @@ module _ (stack : Stack) where
     from_live (Number z) h = refl
     from_live (Part q) h = refl
     from_live (Constant f a) h = declares_from stack.symbols f [] a h
-    from_live (Apply f a ts) h = and_true _ _ (declares_from stack.symbols f (map sort_of (items ts)) a h.0) (from_all_live ts h.1)
+    from_live (Apply f a ts) h = and_from _ _ (declares_from stack.symbols f (map sort_of (items ts)) a h.0) (from_all_live ts h.1)
     from_live (Not t) h = from_live t h
-    from_live (Binary o t u) h = and_true _ _ (from_live t h.0) (from_live u h.1)
-    from_live (Ite c t u) h = and_true _ _ (from_live c h.0) (and_true _ _ (from_live t h.1) (from_live u h.2))
+    from_live (Binary o t u) h = and_from _ _ (from_live t h.0) (from_live u h.1)
+    from_live (Ite c t u) h = and_from _ _ (from_live c h.0) (and_from _ _ (from_live t h.1) (from_live u h.2))
     from_live (AllOf ts) h = from_all_live ts h
     from_live (SomeOf ts) h = from_all_live ts h
 
     from_all_live : (ts : Terms) → AllLive stack ts → are_live stack.symbols ts ≡ true
     from_all_live NoTerms h = refl
-    from_all_live (MoreTerms t ts) h = and_true _ _ (from_live t h.0) (from_all_live ts h.1)
+    from_all_live (MoreTerms t ts) h = and_from _ _ (from_live t h.0) (from_all_live ts h.1)
 
 pub tells_live : TellsLive
 tells_live stack t = (to_live stack t, from_live stack t)

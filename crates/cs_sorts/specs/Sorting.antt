@@ -6,7 +6,7 @@ use Rattle.vx_terms.specs.Sorts.{Sort, IntSort, BoolSort, RealSort, Symbol, Oper
 use Rattle.vx_terms.specs.Terms.{Term, Truth, Number, Part, Constant, Apply, Not, Binary, Ite, AllOf, SomeOf, Terms, NoTerms, MoreTerms, identical, sort_of}
 use Rattle.vx_smt_meaning.specs.Commands.{Declared}
 use Rattle.cs_certificate.specs.Terms.{items}
-use Rattle.cs_nodes.specs.Steps.{◌>>=◌, is_number_sort}
+use Rattle.cs_certificate.specs.Steps.{◌>>=◌, is_number_sort}
 
 -- whether an operator takes operands of this sort
 abbrev pub takes : Operator → Sort → Bool

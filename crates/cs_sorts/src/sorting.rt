@@ -3,7 +3,7 @@ ghost use Rattle.std.specs.Prelude.{◌≡◌};
 ghost use Rattle.vx_terms.specs.Sorts.{gives};
 ghost use Rattle.vx_terms.specs.Views.{term, terms, sort, operator};
 ghost use Rattle.cs_table.specs.Gives.{Gives};
-ghost use Rattle.cs_nodes.specs.Steps.{is_number_sort};
+ghost use Rattle.cs_certificate.specs.Steps.{is_number_sort};
 ghost use Rattle.cs_sorts.specs.Sorting as clean;
 
 use cs_table::Stop;

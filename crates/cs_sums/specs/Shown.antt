@@ -1,7 +1,7 @@
 -- What a caller sees of the comparisons of a stack.
 use Rattle.std.specs.Prelude.{List}
 use Rattle.vx_frac.specs.declared.Frac.{Frac}
-use Rattle.cs_columns.specs.declared.columns.Columns.{Columns}
+use Rattle.cs_sums.specs.declared.columns.Columns.{Columns}
 use Rattle.cs_sums.specs.declared.arithmetic.Arithmetic.{Arithmetic}
 
 -- the columns of terms and of sums

@@ -1,6 +1,6 @@
 //! What is claimed of numbers, whether it can be, and values that meet it.
 ghost use Rattle.std.specs.Prelude.{◌≤◌, IfOk, IfSome, IfNone};
-ghost use Rattle.cs_columns.specs.Splits.{IsSplit, AreWhole};
+ghost use Rattle.cs_sums.specs.Splits.{IsSplit, AreWhole};
 ghost use Rattle.cs_sums.specs.Shown.{columns_of, values_of};
 
 use crate::choice::{Splits, choice};
@@ -10,7 +10,7 @@ use crate::equations::unsolvable;
 use crate::limits::{Entered, Limits};
 use crate::loose::spread;
 use crate::reading::{line_between, numbers_of, value_at};
-use cs_columns::{Columns, Origin, Split, Stop, small_of, split_of, split_of_column, values_of};
+use crate::{Columns, Origin, Split, Stop, small_of, split_of, split_of_column, values_of};
 use cs_farkas::{Numbers, Relation};
 use cs_linear::{Bound, Checked, Entry, Part, Side};
 use cs_meter::Meter;

@@ -1,7 +1,7 @@
 //! Which column of Int is split next.
 
 use crate::limits::Limits;
-use cs_columns::{Columns, Origin};
+use crate::{Columns, Origin};
 use cs_farkas::Numbers;
 use std::alloc::{AllocError, Global};
 use vx_frac::Frac;

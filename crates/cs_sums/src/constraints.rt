@@ -1,6 +1,6 @@
 //! Comparisons as lines, and what they say where they hold or don't.
 
-use cs_columns::{Line, Stop, quotient, turned};
+use crate::{Line, Stop, quotient, turned};
 use cs_farkas::{Numbers, Relation};
 use cs_linear::{Bound, Side, Value};
 use cs_table::{Head, Node};

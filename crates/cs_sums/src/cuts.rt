@@ -1,9 +1,7 @@
 //! Cuts: what a contradiction says of the sum of its splits, rounded to whole numbers.
 
 use crate::constraints::Constraint;
-use cs_columns::{
-    Columns, Named, Origin, Split, Stop, Sum, parts_of, primitive, quotient, split_at,
-};
+use crate::{Columns, Named, Origin, Split, Stop, Sum, parts_of, primitive, quotient, split_at};
 use cs_farkas::Numbers;
 use cs_linear::Entry;
 use std::alloc::Global;

@@ -2,7 +2,7 @@
 
 use crate::cuts::add_sum;
 use crate::limits::Limits;
-use cs_columns::{
+use crate::{
     Columns, Named, Origin, Split, Stop, Sum, floor, parts_of, quotient, split_at, turned,
 };
 use cs_farkas::Numbers;

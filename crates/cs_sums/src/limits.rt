@@ -1,6 +1,6 @@
 //! The tightest bounds of each column.
 
-use cs_columns::Stop;
+use crate::Stop;
 use cs_linear::{Bound, Side};
 use std::alloc::Global;
 use vx_frac::Frac;

@@ -1,7 +1,7 @@
 //! Values of columns that may be others as well: they are spread, so that no two of them are equal by chance.
 
 use crate::limits::Limits;
-use cs_columns::{Columns, Named, Origin, Stop, floor, turned};
+use crate::{Columns, Named, Origin, Stop, floor, turned};
 use cs_farkas::Numbers;
 use cs_linear::Entry;
 use std::alloc::Global;

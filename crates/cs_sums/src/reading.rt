@@ -1,6 +1,6 @@
 //! Numbered terms as sums of columns, and their values.
 
-use cs_columns::{Columns, Line, Stop, Sum, turned};
+use crate::{Columns, Line, Stop, Sum, turned};
 use cs_farkas::{Numbers, Reading, reading_of};
 use cs_table::{Head, Node};
 use std::alloc::Global;

@@ -2,13 +2,13 @@
 use Rattle.std.proofs.Common.{◌≡◌, ℕ, suc, true, List, [], ◌∷◌, refl, sym, ◌∙◌, ap, ap₂, Some}
 use Rattle.std.specs.Prelude.{if◌then◌else◌}
 use Rattle.std.specs.Option.{option_map}
-use Rattle.vx_terms.proofs.Same.{and_parts}
+use Rattle.std.proofs.lemmas.Bool.{and_parts}
 use Rattle.cs_index.specs.declared.index.Index.{Index}
 use Rattle.cs_index.specs.Under.{under}
 use Rattle.cs_index.specs.Found.{first, found, IsIndexed}
 use Rattle.cs_certificate.specs.Terms.{Head}
-use Rattle.cs_nodes.specs.Nodes.{Node, is_node, number_of}
-use Rattle.cs_nodes.proofs.Heads.{head_is, numbers_are}
+use Rattle.cs_certificate.specs.Nodes.{Node, is_node, number_of}
+use Rattle.cs_certificate.proofs.Heads.{head_is, numbers_are}
 use Rattle.cs_table.specs.Keys.{key_over, node_key}
 
 first_is : (ns : List Node) (h : Head) (ps : List ℕ) → first (is_node h ps) ns ≡ number_of ns h ps

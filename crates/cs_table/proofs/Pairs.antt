@@ -2,8 +2,8 @@
 use Rattle.std.proofs.Common.{◌≡◌, ℕ, suc, ◌+◌, ◌<◌, List, [], ◌∷◌, ◌++◌, length, drop, get_or, Option, Some, None, refl, sym, ◌∙◌, ap, ap₂, append_assoc, append-nil, add-one, drop-cons, eq-eqb, ne_eqb}
 use Rattle.std.specs.Prelude.{if◌then◌else◌}
 use Rattle.cs_certificate.specs.Certificate.{NumberedLiteral}
-use Rattle.cs_nodes.specs.Nodes.{Node, equality}
-use Rattle.cs_nodes.specs.Steps.{◌>>=◌, denial, with_pair, pairs}
+use Rattle.cs_certificate.specs.Nodes.{Node, equality}
+use Rattle.cs_certificate.specs.Steps.{◌>>=◌, denial, with_pair, pairs}
 
 -- what was found before, and what the rest gives
 pub joined : List NumberedLiteral → Option (List NumberedLiteral) → Option (List NumberedLiteral)

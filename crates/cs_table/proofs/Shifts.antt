@@ -3,7 +3,7 @@ use Rattle.std.proofs.Common.{◌≡◌, ℕ, suc, ◌+◌, ◌<◌, true, false
 use Rattle.std.specs.Prelude.{if◌then◌else◌}
 use Rattle.std.specs.Option.{option_map}
 use Rattle.cs_certificate.specs.Terms.{Head}
-use Rattle.cs_nodes.specs.Nodes.{is_node, number_of}
+use Rattle.cs_certificate.specs.Nodes.{is_node, number_of}
 use Rattle.cs_table.specs.declared.node.Node.{Node as Node'}
 use Rattle.cs_table.specs.Views.{node, nodes}
 

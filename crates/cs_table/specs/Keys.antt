@@ -4,7 +4,7 @@ use Rattle.vx_terms.specs.Sorts.{Symbol, Standard, Function, Variable, Named, Op
 use Rattle.cs_index.specs.Keys.{mixed, mixed_all}
 use Rattle.vx_frac.specs.Fractions.{Fraction, denominator}
 use Rattle.cs_certificate.specs.Terms.{Head, TruthHead, NumberHead, PartHead, ConstantHead, ApplyHead, BinaryHead, NotHead, IteHead, AllHead, SomeHead}
-use Rattle.cs_nodes.specs.Nodes.{Node}
+use Rattle.cs_certificate.specs.Nodes.{Node}
 
 abbrev pub symbol_key : Symbol → ℕ
 symbol_key (Standard n) = mixed 21 n

@@ -3,7 +3,7 @@ use Rattle.std.specs.Prelude.{List, map}
 use Rattle.vx_frac.specs.Fraction.{fraction}
 use Rattle.vx_terms.specs.Views.{sort, symbol, operator}
 use Rattle.cs_certificate.specs.Terms.{Head, TruthHead, NumberHead, PartHead, ConstantHead, ApplyHead, BinaryHead, NotHead, IteHead, AllHead, SomeHead}
-use Rattle.cs_nodes.specs.Nodes.{Node}
+use Rattle.cs_certificate.specs.Nodes.{Node}
 use Rattle.cs_table.specs.declared.node.Head.{Head as Head'}
 use Rattle.cs_table.specs.declared.node.Head.TheVariants as heads'
 use Rattle.cs_table.specs.declared.node.Node.{Node as Node'}

@@ -1,7 +1,7 @@
 //! The look-up of terms by their heads and the numbers of their parts.
 ghost use Rattle.std.specs.Prelude.{◌≡◌};
 ghost use Rattle.cs_index.specs.Found.{passes_at};
-ghost use Rattle.cs_nodes.specs.Nodes as clean;
+ghost use Rattle.cs_certificate.specs.Nodes as clean;
 ghost use Rattle.cs_table.specs.Table.{nodes_in};
 ghost use Rattle.cs_table.specs.Views.{head, nodes};
 

@@ -4,7 +4,7 @@ ghost use Rattle.vx_frac.specs.Fraction.{fraction};
 ghost use Rattle.vx_terms.specs.Sorts.{same_operator, same_text};
 ghost use Rattle.vx_terms.specs.Terms.{identical};
 ghost use Rattle.vx_terms.specs.Views.{operator};
-ghost use Rattle.cs_nodes.specs.Nodes.{same_head, is_node};
+ghost use Rattle.cs_certificate.specs.Nodes.{same_head, is_node};
 
 use vx_frac::Frac;
 use vx_terms::{Operator, Sort, Symbol};

@@ -2,8 +2,8 @@
 ghost use Rattle.std.specs.Prelude.{◌≡◌, ◌<◌, ◌^◌, ℤ, pos, ◌+ℤ◌, unsigned_abs, false, length, None, FitsSigned};
 ghost use Rattle.std.specs.Int.{w128};
 ghost use Rattle.cs_certificate.specs.Terms.{NumberHead};
-ghost use Rattle.cs_nodes.specs.Nodes.{same_head};
-ghost use Rattle.cs_nodes.specs.Steps as clean;
+ghost use Rattle.cs_certificate.specs.Nodes.{same_head};
+ghost use Rattle.cs_certificate.specs.Steps as clean;
 ghost use Rattle.cs_table.specs.Table.{nodes_in};
 ghost use Rattle.cs_table.specs.Views.{head, nodes};
 ghost use Rattle.cs_table.specs.Gives.{Gives, clause};

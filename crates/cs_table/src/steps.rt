@@ -2,8 +2,8 @@
 ghost use Rattle.std.specs.Prelude.{◌≡◌, ℕ, ◌<◌, ◌^◌, length, slice_get, List, [], ◌∷◌, map};
 ghost use Rattle.vx_terms.specs.Sorts.{IntSort};
 ghost use Rattle.vx_terms.specs.Views.{operator, sort};
-ghost use Rattle.cs_nodes.specs.Steps as clean;
-ghost use Rattle.cs_nodes.specs.Nodes as named;
+ghost use Rattle.cs_certificate.specs.Steps as clean;
+ghost use Rattle.cs_certificate.specs.Nodes as named;
 ghost use Rattle.cs_certificate.specs.Terms.{BinaryHead};
 ghost use Rattle.cs_table.specs.Table.{nodes_in};
 ghost use Rattle.cs_table.specs.Views.{head, node, nodes};

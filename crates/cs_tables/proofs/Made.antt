@@ -1,14 +1,14 @@
 -- The lines over nodes are those of an assignment that the lists tell.
 use Rattle.std.proofs.Common.{◌≡◌, ℕ, zero, suc, ◌+◌, Bool, false, List, [], ◌∷◌, map, Some, None, inl, inr, refl, sym, ◌∙◌, ap, ap₂, subst, arith}
 use Rattle.std.specs.Prelude.{get_or}
-use Rattle.std.proofs.lemmas.Option.{get_or_from_slice_get}
+use Rattle.std.proofs.lemmas.Option.{get_or_from_slice_get, same_Some}
 use Rattle.vx_terms.specs.Sorts.{Sort, IntSort, BoolSort, RealSort, RefSort, SnapSort, OtherSort, Symbol}
 use Rattle.vx_terms.specs.Terms.{Term, Constant, Apply, sort_of}
 use Rattle.vx_terms.specs.Interpretations.{Element, BoolElement, TreeElement, RefLeaf, Each, AllTrue}
 use Rattle.vx_terms.proofs.Values.{sort_of_formed}
 use Rattle.cs_certificate.specs.Terms.{head, parts, numbered, HasSort}
 use Rattle.cs_certificate.specs.Certificate.{At, Contains, AllAt, no-terms, one-term}
-use Rattle.cs_nodes.specs.Nodes.{Node, StandsFor, Represents}
+use Rattle.cs_certificate.specs.Nodes.{Node, StandsFor, Represents}
 use Rattle.cs_table.specs.Gives.{Fails}
 use Rattle.cs_table.specs.declared.steps.Stop.{Stop}
 use Rattle.cs_table.specs.declared.steps.Stop.TheVariants.{Miss, Want}
@@ -25,9 +25,6 @@ use Rattle.cs_classes.specs.Laws.{IsAssigned}
 use Rattle.cs_classes.proofs.Laws.{tables}
 use Rattle.cs_tables.specs.Told.{told, told_of, told_at, Tells}
 use Rattle.cs_tables.specs.Lines.{Line, line, lines, line_of, lines_from}
-
-some_is : {A : Type 0} {x y : A} → Some x ≡ Some y → x ≡ y
-some_is e = cc
 
 -- ---- lines of some nodes
 -- a line comes from the node of some number
@@ -46,7 +43,7 @@ lines_have : (value : ℕ → Element) (n : ℕ) (xs : List Node) (k : ℕ) (x :
 lines_have value n [] k x e l c = cc
 lines_have value n (y ∷ ys) zero x e l c =
     let is : n + 0 ≡ n = omega arith in
-    in_left _ _ l (subst (λ m. Contains (line_of value m y.head y.parts) l) is (subst (λ z. Contains (line_of value (n + 0) z.head z.parts) l) (sym (some_is e)) c))
+    in_left _ _ l (subst (λ m. Contains (line_of value m y.head y.parts) l) is (subst (λ z. Contains (line_of value (n + 0) z.head z.parts) l) (sym (same_Some _ _ e)) c))
 lines_have value n (y ∷ ys) (suc k) x e l c =
     let is : n + suc k ≡ n + 1 + k = omega arith in
     in_right (line_of value n y.head y.parts) _ l (lines_have value (n + 1) ys k x e l (subst (λ m. Contains (line_of value m x.head x.parts) l) is c))
@@ -54,12 +51,12 @@ lines_have value n (y ∷ ys) (suc k) x e l c =
 -- ---- entries and their lines
 entry_line : (xs : List Entry) (x : Entry) → Contains xs x → Contains (lines xs) (line x)
 entry_line [] x (k, e) = cc
-entry_line (y ∷ ys) x (zero, e) = (0, ap (λ z. Some (line z)) (some_is e))
+entry_line (y ∷ ys) x (zero, e) = (0, ap (λ z. Some (line z)) (same_Some _ _ e))
 entry_line (y ∷ ys) x (suc k, e) = let h = entry_line ys x (k, e) in (suc h.0, h.1)
 
 line_entry : (xs : List Entry) (l : Line) → Contains (lines xs) l → (x : Entry) × Contains xs x × (line x ≡ l)
 line_entry [] l (k, e) = cc
-line_entry (y ∷ ys) l (zero, e) = (y, (0, refl), some_is e)
+line_entry (y ∷ ys) l (zero, e) = (y, (0, refl), same_Some _ _ e)
 line_entry (y ∷ ys) l (suc k, e) = let h = line_entry ys l (k, e) in (h.0, (suc (h.1).0, (h.1).1), h.2)
 
 -- the line of a call
@@ -88,7 +85,7 @@ module _ (nodes : List Node) (all : List Term) (truths : List Bool) (classes : L
   term_told n t at =
       let x = r.every n t at in
       let h = r.each n x.0 x.1 in
-      let is : h.0 ≡ t = some_is (sym h.1 ∙ at) in
+      let is : h.0 ≡ t = same_Some _ _ (sym h.1 ∙ at) in
       let same : sort_of h.0 ≡ (x.0).sort = sort_of_formed (h.2.sorted).1 in
       ap (told_of truths classes n) x.1 ∙ ap (told truths classes n) (sym same) ∙ sort_told n h.0 h.1 (sort_of h.0) refl ∙ ap (element_of s) is
 
@@ -98,8 +95,8 @@ module _ (nodes : List Node) (all : List Term) (truths : List Bool) (classes : L
 
   -- ---- the line of a term
   told_line : (n : ℕ) (t : Term) → At all n t → (ps : List ℕ) → map (told_at nodes truths classes) ps ≡ elements_of s (parts t) → (l : Line) → Contains (line_of (told_at nodes truths classes) n (head t) ps) l → IsLine s t l
-  told_line n (Constant f a) at ps is l (zero, e) = subst (IsLine s (Constant f a)) (some_is e) record { call = constant f a; arguments = is; value = term_told n (Constant f a) at }
-  told_line n (Apply f a ts) at ps is l (zero, e) = subst (IsLine s (Apply f a ts)) (some_is e) record { call = applies f a ts; arguments = is; value = term_told n (Apply f a ts) at }
+  told_line n (Constant f a) at ps is l (zero, e) = subst (IsLine s (Constant f a)) (same_Some _ _ e) record { call = constant f a; arguments = is; value = term_told n (Constant f a) at }
+  told_line n (Apply f a ts) at ps is l (zero, e) = subst (IsLine s (Apply f a ts)) (same_Some _ _ e) record { call = applies f a ts; arguments = is; value = term_told n (Apply f a ts) at }
   told_line n (Constant f a) at ps is l (suc k, e) = cc
   told_line n (Apply f a ts) at ps is l (suc k, e) = cc
   told_line n _ at ps is l (k, e) = cc
@@ -114,7 +111,7 @@ module _ (nodes : List Node) (all : List Term) (truths : List Bool) (classes : L
     every_call n t f a xs at call =
         let x = r.every n t at in
         let h = r.each n x.0 x.1 in
-        let is : h.0 ≡ t = some_is (sym h.1 ∙ at) in
+        let is : h.0 ≡ t = same_Some _ _ (sym h.1 ∙ at) in
         let stands : StandsFor all x.0 t = subst (StandsFor all x.0) is h.2 in
         let l = call_line n t f a xs call (x.0).parts in
         let of : Contains (line_of (told_at nodes truths classes) (0 + n) (x.0).head (x.0).parts) l.0 =
@@ -148,7 +145,7 @@ not_missed terms k Miss h = let n = tabulates terms k in let e : None ≡ Some n
 
 -- the nodes represent them
 pub represents : (terms : List Term) (nodes : List Node) → IsTable terms → nodes_of terms terms ≡ Some nodes → Represents nodes terms
-represents terms nodes k e = let n = tabulates terms k in subst (λ ns. Represents ns terms) (some_is (sym n.1 ∙ e)) n.2
+represents terms nodes k e = let n = tabulates terms k in subst (λ ns. Represents ns terms) (same_Some _ _ (sym n.1 ∙ e)) n.2
 
 -- those of assertions
 pub assigned_table : (terms assertions : List Term) (s : Assignment) → terms ≡ numbered assertions → IsAssigned assertions s → IsTable terms

@@ -4,7 +4,7 @@ use Rattle.vx_terms.specs.Sorts.{BoolSort, RefSort, Function, Variable}
 use Rattle.vx_terms.specs.Terms.{Term}
 use Rattle.vx_terms.specs.Interpretations.{BoolElement, TreeElement, RefLeaf, Empty}
 use Rattle.cs_certificate.specs.Terms.{ConstantHead, ApplyHead, NotHead}
-use Rattle.cs_nodes.specs.Nodes.{Node}
+use Rattle.cs_certificate.specs.Nodes.{Node}
 use Rattle.cs_classes.specs.Elements.{Assignment}
 use Rattle.cs_tables.specs.Told.{told_at, Tells}
 use Rattle.cs_tables.specs.Lines.{lines_from}

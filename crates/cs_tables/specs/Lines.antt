@@ -4,7 +4,7 @@ use Rattle.vx_terms.specs.Sorts.{Sort, Symbol}
 use Rattle.vx_terms.specs.Views.{sort, symbol}
 use Rattle.vx_terms.specs.Interpretations.{Element}
 use Rattle.cs_certificate.specs.Terms.{Head, ConstantHead, ApplyHead}
-use Rattle.cs_nodes.specs.Nodes.{Node}
+use Rattle.cs_certificate.specs.Nodes.{Node}
 use Rattle.cs_model.specs.Elements.{element, elements}
 use Rattle.cs_model.specs.declared.tables.Entry.{Entry}
 

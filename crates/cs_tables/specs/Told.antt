@@ -4,7 +4,7 @@ use Rattle.vx_terms.specs.Sorts.{Sort, BoolSort}
 use Rattle.vx_terms.specs.Terms.{Term, sort_of}
 use Rattle.vx_terms.specs.Interpretations.{Element, BoolElement, TreeElement, RefLeaf, Empty}
 use Rattle.cs_certificate.specs.Certificate.{At}
-use Rattle.cs_nodes.specs.Nodes.{Node}
+use Rattle.cs_certificate.specs.Nodes.{Node}
 use Rattle.cs_classes.specs.Elements.{Assignment}
 
 -- the element of the term of this sort and number: of a Bool term its truth, of any other its class

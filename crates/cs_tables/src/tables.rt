@@ -4,7 +4,7 @@ ghost use Rattle.vx_terms.specs.Views.{sort, symbol};
 ghost use Rattle.vx_terms.specs.Terms.{Term};
 ghost use Rattle.vx_terms.specs.Interpretations.{AllTrue};
 ghost use Rattle.cs_certificate.specs.Terms.{numbered};
-ghost use Rattle.cs_nodes.specs.Nodes.{Represents};
+ghost use Rattle.cs_certificate.specs.Nodes.{Represents};
 ghost use Rattle.cs_table.specs.Views as views;
 ghost use Rattle.cs_model.specs.Elements as clean;
 ghost use Rattle.cs_model.specs.Models.{interpretation};

@@ -3,6 +3,7 @@ use Rattle.std.proofs.Common.{◌≡◌, ℕ, zero, suc, ◌<◌, ◌^◌, nat_e
 use Rattle.std.specs.Prelude.{if◌then◌else◌}
 use Rattle.std.specs.Option.{option_map}
 use Rattle.std.specs.Str.{bytes_eq}
+use Rattle.std.proofs.lemmas.Option.{same_Some}
 use Rattle.vx_terms.specs.Sorts.{Sort, Symbol, Standard, Function, Variable, Named, same_symbol, same_text}
 use Rattle.vx_terms.specs.Interpretations.{Each}
 use Rattle.vx_terms.specs.declared.term.Operator.TheVariants as operators
@@ -27,7 +28,7 @@ use Rattle.cs_commands.specs.Laws.{AreApart, IsSmallSymbol}
 use Rattle.cs_commands.proofs.Numerals.{number_back, number_is}
 use Rattle.cs_commands.proofs.Literals.{same_numeral}
 use Rattle.cs_commands.proofs.Declarations.{symbol_same}
-use Rattle.cs_commands.proofs.Passed.{some_is, not_some}
+use Rattle.cs_commands.proofs.Passed.{not_some}
 use Rattle.cs_commands.specs.Following.{HasWord}
 
 -- ---- numerals
@@ -125,7 +126,7 @@ later d ds (Some n) = refl
 
 declares : (ds : List Declared) (n : ℕ) (d : Declared) → At ds n d → names ds d.symbol ≡ true
 declares [] n d at = not_some at
-declares (e ∷ ds) zero d at = ap (λ (x : Declared). if same_symbol x.symbol d.symbol then true else names ds d.symbol) (some_is at) ∙ ap (λ b. if b then true else names ds d.symbol) (symbol_same d.symbol)
+declares (e ∷ ds) zero d at = ap (λ (x : Declared). if same_symbol x.symbol d.symbol then true else names ds d.symbol) (same_Some _ _ at) ∙ ap (λ b. if b then true else names ds d.symbol) (symbol_same d.symbol)
 declares (e ∷ ds) (suc n) d at = go (same_symbol e.symbol d.symbol) (declares ds n d at)
   where
     go : (b : Bool) → names ds d.symbol ≡ true → (if b then true else names ds d.symbol) ≡ true
@@ -134,7 +135,7 @@ declares (e ∷ ds) (suc n) d at = go (same_symbol e.symbol d.symbol) (declares 
 
 pub has_word : (ds : List Declared) (n : ℕ) (d : Declared) → Each (λ (e : Declared). HasWord e.symbol) ds → At ds n d → HasWord d.symbol
 has_word [] n d words at = not_some at
-has_word (e ∷ ds) zero d words at = subst (λ (x : Declared). HasWord x.symbol) (some_is at) words.0
+has_word (e ∷ ds) zero d words at = subst (λ (x : Declared). HasWord x.symbol) (same_Some _ _ at) words.0
 has_word (e ∷ ds) (suc n) d words at = has_word ds n d words.1 at
 
 abbrev found_from : List Declared → List ℕ → Bool → List Declared → Option (Symbol × Sort)
@@ -143,9 +144,9 @@ found_from all x b ds = (if b then Some 0 else option_map suc (first (spelled_by
 found_by : (ds : List Declared) (n : ℕ) (d : Declared) → AreApart ds → Each (λ (e : Declared). HasWord e.symbol) ds → At ds n d → HasWord d.symbol → among ds (symbol_word d.symbol) ≡ Some (d.symbol, d.gives)
 found_by [] n d apart words at own = not_some at
 found_by (e ∷ ds) zero d apart words at own =
-    let spelled : spelled_by (symbol_word d.symbol) e ≡ true = ap (spelled_by (symbol_word d.symbol)) (some_is at) ∙ spelled_self d.symbol own.small in
+    let spelled : spelled_by (symbol_word d.symbol) e ≡ true = ap (spelled_by (symbol_word d.symbol)) (same_Some _ _ at) ∙ spelled_self d.symbol own.small in
     ap (λ b. found_from (e ∷ ds) (symbol_word d.symbol) b ds) spelled
-    ∙ ap (λ (x : Declared). Some (x.symbol, x.gives)) (some_is at)
+    ∙ ap (λ (x : Declared). Some (x.symbol, x.gives)) (same_Some _ _ at)
 found_by (e ∷ ds) (suc n) d apart words at own = go (spelled_by (symbol_word d.symbol) e) refl (found_by ds n d apart.1 words.1 at own)
   where
     go : (b : Bool) → spelled_by (symbol_word d.symbol) e ≡ b → among ds (symbol_word d.symbol) ≡ Some (d.symbol, d.gives) → among (e ∷ ds) (symbol_word d.symbol) ≡ Some (d.symbol, d.gives)

@@ -1,5 +1,6 @@
 -- What a session has answered, command by command from the first.
 use Rattle.std.proofs.Common.{◌≡◌, inl, inr, ◌⊎◌, ℕ, ◌<◌, ◌≤◌, nat_le, Bool, true, false, List, [], ◌∷◌, ◌++◌, map, drop, Option, Some, None, Result, Ok, Err, refl, ap, ◌∙◌, sym, subst, append_assoc, arith}
+use Rattle.std.proofs.lemmas.Option.{same_Some}
 use Rattle.vx_sexp.specs.declared.token.Token.{Token}
 use Rattle.vx_sexp.specs.declared.reader.SexpFault.TheVariants as sexp_faults
 use Rattle.vx_sexp.specs.First.{IsFirst, deepest}
@@ -20,7 +21,7 @@ use Rattle.cs_certificate.specs.Certificate.{Step}
 use Rattle.cs_answer.specs.declared.answer.Cause.{Cause}
 use Rattle.cs_proof.specs.Views.{written}
 use Rattle.cs_text.specs.Text.{certificate_text}
-use Rattle.cs_commands.proofs.Passed.{some_is, not_some}
+use Rattle.cs_commands.proofs.Passed.{not_some}
 use Rattle.cs_session.specs.declared.reply.Reply.{Reply}
 use Rattle.cs_session.specs.declared.reply.Reply.TheVariants.{Proof}
 use Rattle.cs_session.specs.declared.session.Last.{Last}
@@ -88,14 +89,14 @@ answer_by bytes rest tokens s u r (Err e) first meant done = inr (e, done.0, don
 -- ---- its line
 
 told_line : (e : Fault) (r : Reply) → answer_to e ≡ Some r → IsLine r
-told_line faults.Unfinished r is = subst IsLine (some_is is) tt
-told_line faults.BadToken r is = subst IsLine (some_is is) tt
-told_line faults.Deep r is = subst IsLine (some_is is) tt
-told_line (faults.Command command_faults.Name) r is = subst IsLine (some_is is) tt
-told_line (faults.Command command_faults.Wide) r is = subst IsLine (some_is is) tt
-told_line (faults.Command command_faults.Sort) r is = subst IsLine (some_is is) tt
-told_line (faults.Command command_faults.Levels) r is = subst IsLine (some_is is) tt
-told_line (faults.Command command_faults.Unsupported) r is = subst IsLine (some_is is) tt
+told_line faults.Unfinished r is = subst IsLine (same_Some _ _ is) tt
+told_line faults.BadToken r is = subst IsLine (same_Some _ _ is) tt
+told_line faults.Deep r is = subst IsLine (same_Some _ _ is) tt
+told_line (faults.Command command_faults.Name) r is = subst IsLine (same_Some _ _ is) tt
+told_line (faults.Command command_faults.Wide) r is = subst IsLine (same_Some _ _ is) tt
+told_line (faults.Command command_faults.Sort) r is = subst IsLine (same_Some _ _ is) tt
+told_line (faults.Command command_faults.Levels) r is = subst IsLine (same_Some _ _ is) tt
+told_line (faults.Command command_faults.Unsupported) r is = subst IsLine (same_Some _ _ is) tt
 told_line (faults.Command command_faults.Want) r is = not_some is
 
 -- what is shown of some steps is one expression, and a line feed

@@ -1,6 +1,7 @@
 -- The line of a certificate, as it is read.
 use Rattle.std.proofs.Common.{◌≡◌, ℕ, zero, suc, ◌≤◌, ◌+◌, ◌==◌, ◌&&◌, Bool, true, false, List, [], ◌∷◌, length, refl, ap, ◌∙◌, sym, subst, if◌then◌else◌, arith}
 use Rattle.std.proofs.lemmas.Grind.{common_steps}
+use Rattle.std.proofs.lemmas.Bool.{and_parts}
 use Rattle.vx_sexp.specs.declared.token.Token.{Token}
 use Rattle.vx_sexp.specs.Characters.{is_blank}
 use Rattle.vx_sexp.specs.Tokens.{Lexes, is_empty}
@@ -9,7 +10,6 @@ use Rattle.vx_sexp.specs.Scanning.{Next, Found, Unfinished, Bad, next, scan, mov
 use Rattle.vx_sexp.specs.Finished.{finished, finished_at, finished_from, is_closed, closed_by, closed_at, closed_from}
 use Rattle.vx_sexp.proofs.Backs.{starts_next}
 use Rattle.vx_sexp.proofs.Firsts.{next_shorter}
-use Rattle.vx_terms.proofs.Same.{and_parts}
 use Rattle.vx_dialogue.proofs.Counts.{finished_first}
 use Rattle.vx_companion.specs.Companion.{IsOneReply}
 

@@ -1,5 +1,6 @@
 -- Where no member is entered within itself, no more are entered one from another than there are members.
 use Rattle.std.proofs.Common.{◌≡◌, ◌⊎◌, inl, inr, ℕ, zero, suc, ◌≤◌, ◌<◌, Bool, true, false, cond, List, [], ◌∷◌, ◌++◌, length, map, Option, Some, None, refl, sym, ap, ◌∙◌, subst, arith, true≢false, is_some, le_refl, ap₂, eqb-true, eq-eqb, ◌&&◌}
+use Rattle.std.proofs.lemmas.Bool.{and_parts}
 use Rattle.vx_ast.specs.Syntax.{Name, same_name, Program, Kind, function_in, predicate_in, member_named, function_named, predicate_named}
 use Rattle.vx_terms.specs.Interpretations.{Each}
 use Rattle.vx_depth.specs.Entering.{entered_by_function, entered_by_predicate, entered_from, IsWithin, LeadsBy, NoneWithinItself}
@@ -7,11 +8,7 @@ use Rattle.vx_ast.specs.Apart.{Stands}
 
 same_is : (x y : Name) → same_name x y ≡ true → x ≡ y
 same_is [] [] e = refl
-same_is (a ∷ x) (b ∷ y) e = let q = parts _ _ e in ap₂ (λ c z. c ∷ z) (eqb-true a b q.0) (same_is x y q.1)
-  where
-    parts : (a b : Bool) → (a && b) ≡ true → (a ≡ true) × (b ≡ true)
-    parts true b e = (refl, e)
-    parts false b e = absurd (true≢false (sym e))
+same_is (a ∷ x) (b ∷ y) e = let q = and_parts _ _ e in ap₂ (λ c z. c ∷ z) (eqb-true a b q.0) (same_is x y q.1)
 same_is [] (b ∷ y) e = absurd (true≢false (sym e))
 same_is (a ∷ x) [] e = absurd (true≢false (sym e))
 

@@ -3,6 +3,7 @@ use Rattle.std.proofs.Common.{◌≡◌, ℕ, zero, suc, ◌+◌, ◌-◌, ◌<�
 use Rattle.std.specs.List.{slice_get}
 use Rattle.std.proofs.Math.Seq.{take-append_seam}
 use Rattle.std.proofs.lemmas.List.{take-map, drop-map, map-append, take-append-drop, length-map}
+use Rattle.std.proofs.lemmas.Option.{same_Some}
 use Rattle.vx_smt_meaning.specs.Commands.{Command, Declared, Assert, Pop}
 use Rattle.vx_segments.specs.Segments.{Entry, terms}
 use Rattle.vx_segments.specs.Views.{entry}
@@ -16,7 +17,6 @@ use Rattle.vx_dialogue.specs.declared.standing.Sent.{Sent}
 use Rattle.vx_dialogue.specs.declared.standing.Standing.{Standing}
 use Rattle.vx_dialogue.specs.Standing.{entries_of, path_of, AreCounted, IsSound}
 use Rattle.vx_terms.specs.Terms.{Term}
-use Rattle.vx_dialogue.proofs.Told.{some_same}
 use Rattle.vx_dialogue.proofs.Extends.{with_missing}
 use Rattle.vx_dialogue.proofs.Entries.{added, listed}
 use Rattle.vx_dialogue.proofs.Kept.{last_end, kept_is}
@@ -105,7 +105,7 @@ entry_along old new e rest path = ap (λ x. x ++ rest) path ∙ append_assoc old
 -- the segment of the last entry
 pub last_is : (before : ℕ) (sents : List Sent) (s : Sent) → Some s ≡ slice_get sents (length sents - 1) → s.entry.segment ≡ last_of before (entries_of sents)
 last_is before [] s e = absurd (cc)
-last_is before (x ∷ []) s e = ap (λ (y : Sent). y.entry.segment) (some_same s x e)
+last_is before (x ∷ []) s e = ap (λ (y : Sent). y.entry.segment) (same_Some s x e)
 last_is before (x ∷ y ∷ sents) s e =
     let less : length (x ∷ y ∷ sents) - 1 ≡ suc (length (y ∷ sents) - 1) = omega arith in
     last_is x.entry.segment (y ∷ sents) s (e ∙ ap (slice_get (x ∷ y ∷ sents)) less)

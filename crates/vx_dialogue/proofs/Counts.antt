@@ -1,6 +1,7 @@
 -- How many expressions are finished in commands and in items.
 use Rattle.std.proofs.Common.{◌≡◌, ◌++◌, ◌+◌, ◌-◌, ◌<◌, ◌≤◌, ◌==◌, ◌&&◌, ◌⊎◌, inl, inr, not, nat_le, drop, ℕ, ℤ, pos, negsuc, zero, suc, Bool, true, false, List, [], ◌∷◌, codes, length, refl, ap, ◌∙◌, sym, append_assoc, if◌then◌else◌, arith}
 use Rattle.std.proofs.lemmas.Grind.{common_steps}
+use Rattle.std.proofs.lemmas.Bool.{and_parts}
 use Rattle.vx_sexp.specs.declared.token.Kind.{Kind}
 use Rattle.vx_sexp.specs.declared.token.Kind.TheVariants as kind
 use Rattle.vx_sexp.specs.declared.token.Token.{Token}
@@ -32,10 +33,6 @@ some_of n e = grind (arith, common_steps)
 plus_none : (n : ℕ) → 0 + n ≡ n
 plus_none n = omega arith
 
-both : (a b : Bool) → (a && b) ≡ true → (a ≡ true) × (b ≡ true)
-both true b e = (refl, e)
-both false b e = absurd (cc)
-
 -- ---- a first expression is one
 
 step_one : (d : ℕ) (t : Token) (ts : List Token) (b rest : List ℕ) (z : Bool) → (after d t == 0) ≡ z → fits d t ≡ true → Lexes b ts rest
@@ -51,7 +48,7 @@ step_one d t ts b rest false e fit lexed c later = rw (fit, e) (plus_none (finis
 finished_one : (d : ℕ) (ts : List Token) (bytes rest : List ℕ) → Lexes bytes ts rest → closes d ts ≡ true → finished_at d bytes ≡ 1 + finished_at 0 rest
 finished_one d [] bytes rest lexed c = absurd (cc)
 finished_one d (t ∷ ts) bytes rest lexed c =
-    let parts = both (fits d t) (if after d t == 0 then is_empty ts else closes (after d t) ts) c in
+    let parts = and_parts (fits d t) (if after d t == 0 then is_empty ts else closes (after d t) ts) c in
     finished_step d bytes t lexed.0 (starts_next lexed.1)
     ∙ step_one d t ts lexed.0 rest (after d t == 0) refl parts.0 lexed.2 parts.1 (λ h. finished_one (after d t) ts lexed.0 rest lexed.2 h)
 
@@ -71,8 +68,8 @@ finished_items (item ∷ items) bytes rest e =
 unfinished_at : (d : ℕ) (ts : List Token) (bytes rest : List ℕ) → Lexes bytes ts rest → opens d ts ≡ true → next rest ≡ Unfinished → finished_at d bytes ≡ 0
 unfinished_at d [] bytes rest lexed c stop = finished_stop d bytes (ap next (sym lexed) ∙ stop)
 unfinished_at d (t ∷ ts) bytes rest lexed c stop =
-    let parts = both (fits d t && not (after d t == 0)) (opens (after d t) ts) c in
-    let more = both (fits d t) (not (after d t == 0)) parts.0 in
+    let parts = and_parts (fits d t && not (after d t == 0)) (opens (after d t) ts) c in
+    let more = and_parts (fits d t) (not (after d t == 0)) parts.0 in
     finished_step d bytes t lexed.0 (starts_next lexed.1)
     ∙ by_end (after d t == 0) refl more.0 more.1 (unfinished_at (after d t) ts lexed.0 rest lexed.2 parts.1 stop)
   where
@@ -92,8 +89,8 @@ bad_at d [] bytes rest bad lexed c (inr close) =
     let fit : nat_le 1 d ≡ false = let none = close.0 in grind (arith, common_steps) in
     finished_step d bytes Close close.1.0 (ap next (sym lexed) ∙ close.1.2) ∙ rw fit refl
 bad_at d (t ∷ ts) bytes rest bad lexed c stop =
-    let parts = both (fits d t && not (after d t == 0)) (opens (after d t) ts) c in
-    let more = both (fits d t) (not (after d t == 0)) parts.0 in
+    let parts = and_parts (fits d t && not (after d t == 0)) (opens (after d t) ts) c in
+    let more = and_parts (fits d t) (not (after d t == 0)) parts.0 in
     finished_step d bytes t lexed.0 (starts_next lexed.1)
     ∙ by_end (after d t == 0) refl more.0 more.1 (bad_at (after d t) ts lexed.0 rest bad lexed.2 parts.1 stop)
   where

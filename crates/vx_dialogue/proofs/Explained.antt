@@ -1,5 +1,6 @@
 -- Why a call gives no reply.
 use Rattle.std.proofs.Common.{◌≡◌, ◌++◌, ◌<◌, ℕ, zero, suc, true, List, [], ◌∷◌, length, refl, ap, ◌∙◌, sym, subst, arith, append_assoc, Some, Result, Ok, Err, IfErr}
+use Rattle.std.proofs.lemmas.Option.{same_Some}
 use Rattle.vx_ends.specs.declared.piece.Piece.{Piece}
 use Rattle.vx_ends.specs.declared.fault.LinkFault.{LinkFault}
 use Rattle.vx_ends.specs.declared.fault.LinkFault.TheVariants as link
@@ -20,7 +21,6 @@ use Rattle.vx_dialogue.specs.Stops.{wanted_by, Stops, Explains, FailsAfter}
 use Rattle.vx_dialogue.specs.Dialogue.{Gathers, Waits}
 use Rattle.vx_smt_text.specs.Text.{commands_text}
 use Rattle.vx_dialogue.proofs.Lists.{none_more, text_append, successes_to, answers_join}
-use Rattle.vx_dialogue.proofs.Told.{some_same}
 use Rattle.vx_dialogue.proofs.Steady.{commands_front}
 use Rattle.vx_dialogue.proofs.Joined.{short_longer, short_join}
 
@@ -133,7 +133,7 @@ pub in_waiting : {L : Type 0} (dialogue : L → List Piece) (d : Dialogue L) (t 
     → FailsAfter t owed (got (dialogue d.link)) d.unread.items (got pieces)
     → (commands : List Command) (checks : List Check) → Waits dialogue d commands checks → AreCommands commands → Explains t pieces
 in_waiting dialogue d t owed pieces is sent_on fails commands checks w named =
-    let number : owed ≡ length w.waiting = some_same owed (length w.waiting) (sym is ∙ w.owed_is) in
+    let number : owed ≡ length w.waiting = same_Some owed (length w.waiting) (sym is ∙ w.owed_is) in
     let counted = subst (λ n. FailsAfter t n (got (dialogue d.link)) d.unread.items (got pieces)) number fails in
     explains_among t pieces (got (dialogue d.link)) d.unread.items w.items w.answered w.waiting (CheckSat ∷ []) (waiting_names dialogue d commands checks w named) (waiting_text dialogue d pieces sent_on commands checks w) w.got_is w.lawful w.plain counted
 
@@ -142,7 +142,7 @@ pub in_answer : {L : Type 0} (dialogue : L → List Piece) (d : Dialogue L) (t :
     → ReadsSuccesses owed (got (dialogue d.link)) d.unread.items g1 u1 → GivesNoReply t wanted.Answer g1 u1 (got pieces)
     → (commands : List Command) (checks : List Check) → Waits dialogue d commands checks → AreCommands commands → Explains t pieces
 in_answer dialogue d t owed g1 u1 pieces is sent_on reads gives commands checks w named =
-    let number : owed ≡ length w.waiting = some_same owed (length w.waiting) (sym is ∙ w.owed_is) in
+    let number : owed ≡ length w.waiting = same_Some owed (length w.waiting) (sym is ∙ w.owed_is) in
     let counted = subst (λ n. ReadsSuccesses n (got (dialogue d.link)) d.unread.items g1 u1) number reads in
     explains_at t pieces (got (dialogue d.link)) d.unread.items g1 u1 w.items w.answered w.waiting CheckSat [] wanted.Answer (waiting_names dialogue d commands checks w named) (waiting_text dialogue d pieces sent_on commands checks w)
     w.got_is w.lawful w.plain refl counted gives

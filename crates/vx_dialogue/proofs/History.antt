@@ -1,6 +1,7 @@
 -- What a dialogue told of its checks, its record tells, and goes on telling as it grows.
 use Rattle.std.proofs.Common.{◌≡◌, ◌++◌, ◌+◌, ◌∷◌, [], ℕ, ◌<◌, ◌≤◌, Bool, true, false, List, length, Some, refl, ap, ◌∙◌, sym, subst, append_assoc, length-append, arith}
-use Rattle.std.proofs.lemmas.List.{append_cancel_left}
+use Rattle.std.proofs.lemmas.List.{append_cancel_left, length_push}
+use Rattle.std.proofs.lemmas.Option.{same_Some}
 use Rattle.vx_ends.specs.declared.fault.LinkFault.{LinkFault}
 use Rattle.vx_ends.specs.declared.piece.Piece.{Piece}
 use Rattle.vx_ends.specs.Dialogue.{sent, got, SendsOn, GetsOn}
@@ -24,8 +25,7 @@ use Rattle.vx_dialogue.specs.History.{HoldsNoAnswer, TellsOf, Tells, may_miss, B
 use Rattle.vx_dialogue.specs.Pace.{KeepsPace}
 use Rattle.vx_dialogue.specs.Scripts.{Outside, ScopedTurn, said_of, scope_from, script}
 use Rattle.vx_dialogue.proofs.Joined.{append_none, short_longer, sent_by_gets}
-use Rattle.vx_dialogue.proofs.Told.{some_same}
-use Rattle.vx_dialogue.proofs.Lists.{length_more, text_append, text_more, small_join}
+use Rattle.vx_dialogue.proofs.Lists.{text_append, text_more, small_join}
 use Rattle.vx_dialogue.proofs.Pace.{pace_longer, pace_begun, pace_got}
 use Rattle.vx_dialogue.proofs.Explained.{by_link}
 use Rattle.vx_dialogue.proofs.Held.{none_plain, held_longer, held_part, held_unanswered, unanswered_among, unanswered_check}
@@ -152,7 +152,7 @@ module _ {L : Type 0} (dialogue : L → List Piece) (d : Dialogue L) (commands :
   pub in_waiting_tells : (t : Talk) (owed : ℕ) (new : List Piece) → GetsOn (dialogue d.link) new → d.owed ≡ Some owed → FailsAfter t owed (got (dialogue d.link)) d.unread.items (got new)
       → Waits dialogue d commands checks → TellsOf true (may_miss t) commands new checks
   in_waiting_tells t owed new gets is fails w =
-      let number : owed ≡ length w.waiting = some_same owed (length w.waiting) (sym is ∙ w.owed_is) in
+      let number : owed ≡ length w.waiting = same_Some owed (length w.waiting) (sym is ∙ w.owed_is) in
       let counted = subst (λ n. FailsAfter t n (got (dialogue d.link)) d.unread.items (got new)) number fails in
       waits_tells (may_miss t) new gets w (λ no_miss. unanswered_among t w.waiting (got (dialogue d.link)) d.unread.items (got new) no_miss w.plain counted)
 
@@ -160,7 +160,7 @@ module _ {L : Type 0} (dialogue : L → List Piece) (d : Dialogue L) (commands :
   pub in_answer_tells : (t : Talk) (owed : ℕ) (g1 u1 : List ℕ) (new : List Piece) → GetsOn (dialogue d.link) new → d.owed ≡ Some owed → ReadsSuccesses owed (got (dialogue d.link)) d.unread.items g1 u1
       → GivesNoReply t wanted.Answer g1 u1 (got new) → Waits dialogue d commands checks → TellsOf true (may_miss t) commands new checks
   in_answer_tells t owed g1 u1 new gets is reads gives w =
-      let number : owed ≡ length w.waiting = some_same owed (length w.waiting) (sym is ∙ w.owed_is) in
+      let number : owed ≡ length w.waiting = same_Some owed (length w.waiting) (sym is ∙ w.owed_is) in
       let counted = subst (λ n. ReadsSuccesses n (got (dialogue d.link)) d.unread.items g1 u1) number reads in
       waits_tells (may_miss t) new gets w (λ no_miss. unanswered_check t w.waiting (got (dialogue d.link)) d.unread.items g1 u1 (got new) no_miss counted gives)
 
@@ -210,7 +210,7 @@ module _ {L : Type 0} (dialogue : L → List Piece) (d : Dialogue L) (commands :
       let some : 0 < length begun.0 = omega arith in
       sends_tells g new new (d.batch.items ++ command_text CheckSat) (commands ++ CheckSat ∷ []) (g.gathered ++ CheckSat ∷ [])
       (ap (λ x. x ++ CheckSat ∷ []) g.all ∙ append_assoc g.answered g.gathered (CheckSat ∷ []))
-      (ap (λ x. x ++ command_text CheckSat) g.batch_is ∙ sym (text_more g.gathered CheckSat)) (omega (arith, length_more g.gathered CheckSat, g.count_is))
+      (ap (λ x. x ++ command_text CheckSat) g.batch_is ∙ sym (text_more g.gathered CheckSat)) (omega (arith, length_push g.gathered CheckSat, g.count_is))
       (small_join commands (CheckSat ∷ []) g.small (tt, tt)) sends (gets_none new)
       (pace_longer commands (CheckSat ∷ []) (dialogue d.link) g.pace) begun.0 begun.1 got_on (λ front later all. held_part g.gathered front begun.0 later g.plain some all)
 

@@ -1,5 +1,6 @@
 -- Items that are read one after another.
-use Rattle.std.proofs.Common.{◌≡◌, ◌++◌, ◌+◌, ℕ, List, [], ◌∷◌, length, refl, ap, ◌∙◌, sym, subst, append_assoc, length-append, arith, true}
+use Rattle.std.proofs.Common.{◌≡◌, ◌++◌, ◌+◌, ℕ, List, [], ◌∷◌, refl, ap, ◌∙◌, sym, subst, append_assoc, length-append, arith, true}
+use Rattle.std.proofs.lemmas.List.{length_push}
 use Rattle.vx_ends.specs.declared.piece.Piece.{Piece}
 use Rattle.vx_ends.specs.declared.piece.Piece.TheVariants.{Sent, Got}
 use Rattle.vx_ends.specs.Dialogue.{sent, Grows, AreGot, GetsOn}
@@ -62,10 +63,6 @@ lawful_more : (w : Wanted) (items : List (List Token)) (item : List Token) → a
 lawful_more w [] item e f = (f, tt)
 lawful_more w (i ∷ items) item e f = (e.0, lawful_more w items item e.1 f)
 
-pub length_more : {A : Type 0} (xs : List A) (x : A) → length (xs ++ x ∷ []) ≡ length xs + 1
-length_more [] x = refl
-length_more (y ∷ xs) x = let h = length_more xs x in omega arith
-
 -- The bytes got and not read go on with an item.
 pub items_on : (got0 unread0 got1 unread1 got2 unread2 : List ℕ) (more : List ℕ) (items : List (List Token)) (item : List Token) → got1 ≡ got0 ++ more → ShortItems (unread0 ++ more) items unread1
     → ReadsItem got1 unread1 got2 unread2 item → (all : List ℕ) × (got2 ≡ got0 ++ all) × ShortItems (unread0 ++ all) (items ++ item ∷ []) unread2
@@ -83,7 +80,7 @@ pub successes_on : (n : ℕ) (got0 unread0 got1 unread1 got2 unread2 : List ℕ)
     → ReadsItem got1 unread1 got2 unread2 item → is_lawful wanted.Success item ≡ true → ReadsSuccesses (n + 1) got0 unread0 got2 unread2
 successes_on n got0 unread0 got1 unread1 got2 unread2 item before reads lawful =
     let on = items_on got0 unread0 got1 unread1 got2 unread2 before.0 before.2 item before.1 before.3 reads in
-    (on.0, on.1, before.2 ++ item ∷ [], on.2, length_more before.2 item ∙ ap (λ x. x + 1) before.4, lawful_more wanted.Success before.2 item before.5 lawful)
+    (on.0, on.1, before.2 ++ item ∷ [], on.2, length_push before.2 item ∙ ap (λ x. x + 1) before.4, lawful_more wanted.Success before.2 item before.5 lawful)
 
 pub items_join : (bytes : List ℕ) (xs ys : List (List Token)) (mid rest : List ℕ) → Items bytes xs mid → Items mid ys rest → Items bytes (xs ++ ys) rest
 items_join bytes [] ys mid rest e f = subst (λ x. Items x ys rest) e f

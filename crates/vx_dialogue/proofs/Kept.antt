@@ -1,8 +1,8 @@
 -- What is kept of the last path is the beginning of the new one, and ends where a level does.
 use Rattle.std.proofs.Common.{◌≡◌, ℕ, suc, ◌≤◌, Bool, true, false, nat_eq, if◌then◌else◌, List, [], ◌∷◌, ◌++◌, drop, take, length, Option, Some, None, refl, sym, ◌∙◌, ap, ap₂, subst, append_assoc, length-append, arith}
-use Rattle.std.proofs.lemmas.Bool.{eqb-true}
+use Rattle.std.proofs.lemmas.Bool.{eqb-true, and_parts}
 use Rattle.vx_terms.specs.Terms.{same}
-use Rattle.vx_terms.proofs.Same.{term_is, and_parts}
+use Rattle.vx_terms.proofs.Same.{term_is}
 use Rattle.vx_segments.specs.Segments.{Entry}
 use Rattle.vx_dialogue.specs.Segments.{last_of}
 use Rattle.vx_dialogue.specs.Kept.{same_entry, kept_from, kept}

@@ -1,6 +1,6 @@
 -- Lists, and what is told of commands one after another.
-use Rattle.std.proofs.Common.{◌≡◌, ◌++◌, ◌+◌, ◌-◌, ◌<◌, ℕ, zero, suc, true, List, [], ◌∷◌, length, map, take, drop, get_or, Result, Ok, Err, OnOk, IfOk, refl, ap, ◌∙◌, sym, arith, append_assoc, add-one}
-use Rattle.std.proofs.Math.Seq.{take-suc, take-length}
+use Rattle.std.proofs.Common.{◌≡◌, ◌++◌, ◌+◌, ◌-◌, ◌<◌, ℕ, zero, suc, true, List, [], ◌∷◌, length, map, take, drop, get_or, Result, Ok, Err, OnOk, IfOk, refl, ap, ◌∙◌, sym, arith, append_assoc}
+use Rattle.std.proofs.Math.Seq.{take-length}
 use Rattle.std.proofs.lemmas.List.{take-append-drop, length-drop}
 use Rattle.vx_sexp.specs.declared.token.Token.{Token}
 use Rattle.vx_smt_meaning.specs.Commands.{Command, SetOption, SetLogic, DeclareSort, DeclareFun, Assert, Push, Pop, CheckSat, GetProof, Exit, Level, stack_after, stack_from}
@@ -15,10 +15,6 @@ use Rattle.vx_dialogue.specs.Hears.{all_lawful}
 pub none_more : {A : Type 0} (xs : List A) → xs ++ [] ≡ xs
 none_more [] = refl
 none_more (x ∷ xs) = ap (λ l. x ∷ l) (none_more xs)
-
-pub length_more : {A : Type 0} (xs : List A) (x : A) → length (xs ++ x ∷ []) ≡ length xs + 1
-length_more [] x = refl
-length_more (y ∷ xs) x = let h = length_more xs x in omega arith
 
 pub text_append : (xs ys : List Command) → commands_text (xs ++ ys) ≡ commands_text xs ++ commands_text ys
 text_append [] ys = refl
@@ -99,9 +95,6 @@ checks_join levels (c ∷ cs) ds (x ∷ xs) ys e =
 map_append : {A B : Type 0} (f : A → B) (xs ys : List A) → map f (xs ++ ys) ≡ map f xs ++ map f ys
 map_append f [] ys = refl
 map_append f (x ∷ xs) ys = ap (λ l. f x ∷ l) (map_append f xs ys)
-
-pub map_take_more : {A B : Type 0} (f : A → B) (xs : List A) (i : ℕ) (d : A) → i < length xs → map f (take (i + 1) xs) ≡ map f (take i xs) ++ f (get_or xs i d) ∷ []
-map_take_more f xs i d below = rw (add-one, take-suc xs i d below) (map_append f (take i xs) (get_or xs i d ∷ []))
 
 pub plain_at : {A : Type 0} (f : A → Command) (xs : List A) (i : ℕ) (d : A) → i < length xs → ArePlain (map f xs) → is_plain (f (get_or xs i d)) ≡ true
 plain_at f [] i d below e = absurd (omega arith)

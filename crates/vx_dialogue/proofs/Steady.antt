@@ -1,6 +1,8 @@
 -- Why a reply is owed whenever one is awaited.
 use Rattle.std.proofs.Common.{◌≡◌, ◌++◌, ◌+◌, ◌-◌, ◌<◌, ◌≤◌, ℕ, Bool, false, IsTrue, List, [], ◌∷◌, length, map, take, drop, Some, refl, ap, ◌∙◌, sym, subst, append_assoc, length-append, arith, Result, Err, IfErr}
 use Rattle.std.proofs.lemmas.Grind.{common_steps}
+use Rattle.std.proofs.lemmas.List.{length_push}
+use Rattle.std.proofs.lemmas.Option.{same_Some}
 use Rattle.vx_ends.specs.declared.piece.Piece.{Piece}
 use Rattle.vx_ends.specs.Causes.{HasCause, IsCalm}
 use Rattle.vx_ends.specs.Dialogue.{sent, got, IsOwedReply}
@@ -20,9 +22,8 @@ use Rattle.vx_sexp.specs.Characters.{is_symbol_byte, is_digit}
 use Rattle.vx_dialogue.specs.Preamble.{print_success, preamble}
 use Rattle.vx_dialogue.specs.Dialogue.{Gathers, Waits}
 use Rattle.vx_dialogue.specs.Steady.{IsSteady, Owes}
-use Rattle.vx_dialogue.proofs.Joined.{items_longer, items_more, items_join, items_of, length_more}
+use Rattle.vx_dialogue.proofs.Joined.{items_longer, items_more, items_join, items_of}
 use Rattle.vx_dialogue.proofs.Lists.{text_append, map_whole}
-use Rattle.vx_dialogue.proofs.Told.{some_same}
 use Rattle.vx_dialogue.proofs.Counts.{finished_items, finished_none, text_least}
 
 -- ---- a call that doesn't fail
@@ -57,7 +58,7 @@ owes_keeps n old new u0 u1 keeps same owes =
 pub owes_read : (n : ℕ) (old new : List Piece) (u0 u1 : List ℕ) (item : List Token) → ReadsItem (got old) u0 (got new) u1 item → sent new ≡ sent old → Owes (n + 1) old u0 → Owes n new u1
 owes_read n old new u0 u1 item reads same owes =
     let sent_same = ap finished same in
-    let longer = length_more owes.0 item in
+    let longer = length_push owes.0 item in
     let most = owes.2 in (
       owes.0 ++ item ∷ [],
       subst (λ x. Items x (owes.0 ++ item ∷ []) u1) (sym reads.1)
@@ -130,8 +131,8 @@ module _ {L : Type 0} (dialogue : L → List Piece) (d : Dialogue L) (commands :
   -- a check waits behind so many others
   pub owes_check : (owed : ℕ) → d.owed ≡ Some owed → AreCommands commands → Waits dialogue d commands checks → Owes (owed + 1) (dialogue d.link) d.unread.items
   owes_check owed owed_is named w =
-      let number : owed ≡ length w.waiting = some_same owed (length w.waiting) (sym owed_is ∙ w.owed_is) in
-      let all = ap length w.all ∙ (length_more (w.answered ++ w.waiting) CheckSat ∙ ap (λ n. n + 1) (length-append w.answered w.waiting)) in
+      let number : owed ≡ length w.waiting = same_Some owed (length w.waiting) (sym owed_is ∙ w.owed_is) in
+      let all = ap length w.all ∙ (length_push (w.answered ++ w.waiting) CheckSat ∙ ap (λ n. n + 1) (length-append w.answered w.waiting)) in
       let replies = answers_length w.answered w.items w.lawful in
       let least = text_least commands named in
       let sent_same = ap finished w.sent_is in

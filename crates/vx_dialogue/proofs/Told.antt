@@ -1,5 +1,7 @@
 -- What is told of a dialogue as it goes on.
 use Rattle.std.proofs.Common.{◌≡◌, ◌++◌, ◌+◌, ◌<◌, arith, ℕ, true, List, [], ◌∷◌, length, refl, ap, ◌∙◌, sym, subst, append_assoc, Some}
+use Rattle.std.proofs.lemmas.Option.{same_Some}
+use Rattle.std.proofs.lemmas.List.{length_push}
 use Rattle.vx_ends.specs.declared.piece.Piece.{Piece}
 use Rattle.vx_ends.specs.Dialogue.{sent, got, SendsOn, GetsOn}
 use Rattle.vx_sexp.specs.declared.token.Token.{Token}
@@ -15,7 +17,7 @@ use Rattle.vx_dialogue.specs.Hears.{ReadsSuccesses}
 use Rattle.vx_dialogue.specs.Dialogue.{Gathers, Waits, told_check}
 use Rattle.vx_dialogue.specs.Pace.{KeepsPace}
 use Rattle.vx_dialogue.proofs.Pace.{pace_none, pace_longer, pace_sent, pace_got}
-use Rattle.vx_dialogue.proofs.Lists.{none_more, length_more, text_append, text_more, stack_append, plain_join, small_join, no_checks, successes_to, answers_join, checks_join}
+use Rattle.vx_dialogue.proofs.Lists.{none_more, text_append, text_more, stack_append, plain_join, small_join, no_checks, successes_to, answers_join, checks_join}
 use Rattle.vx_dialogue.proofs.Joined.{short_longer, short_join}
 
 -- Items that were read, and then some more of what was got meanwhile.
@@ -34,8 +36,8 @@ gathers_said dialogue d e c plain small link batch count unread room commands ch
   all = rw g.all (append_assoc g.answered g.gathered (c ∷ []));
   sent_is = rw link g.sent_is;
   batch_is = batch ∙ rw g.batch_is (sym (text_more g.gathered c));
-  count_is = count ∙ rw g.count_is (sym (length_more g.gathered c));
-  few = omega (arith, length_more g.gathered c, g.count_is);
+  count_is = count ∙ rw g.count_is (sym (length_push g.gathered c));
+  few = omega (arith, length_push g.gathered c, g.count_is);
   pace = rw link (pace_longer commands (c ∷ []) (dialogue d.link) g.pace);
   small = small_join commands (c ∷ []) g.small (small, tt);
   plain = plain_join g.gathered (c ∷ []) g.plain (plain, tt);
@@ -88,7 +90,7 @@ waits_sent dialogue d e sends room sent_on batch count owed got_on unread comman
   owed_is = owed ∙ ap Some g.count_is;
   pace = pace_sent (dialogue d.link) (dialogue e.link) (d.batch.items ++ command_text CheckSat) (commands ++ CheckSat ∷ []) g.answered (g.gathered ++ CheckSat ∷ []) g.items d.unread.items
       (ap (λ x. x ++ CheckSat ∷ []) g.all ∙ append_assoc g.answered g.gathered (CheckSat ∷ [])) sends sent_on g.sent_is (ap (λ x. x ++ command_text CheckSat) g.batch_is ∙ sym (text_more g.gathered CheckSat))
-      (omega (arith, length_more g.gathered CheckSat, g.count_is)) (small_join commands (CheckSat ∷ []) g.small (tt, tt)) g.got_is g.lawful
+      (omega (arith, length_push g.gathered CheckSat, g.count_is)) (small_join commands (CheckSat ∷ []) g.small (tt, tt)) g.got_is g.lawful
       (pace_longer commands (CheckSat ∷ []) (dialogue d.link) g.pace);
   small = small_join commands (CheckSat ∷ []) g.small (tt, tt);
   plain = g.plain;
@@ -96,9 +98,6 @@ waits_sent dialogue d e sends room sent_on batch count owed got_on unread comman
   lawful = g.lawful;
   checks_are = g.checks_are;
 }
-
-pub some_same : {A : Type 0} (x y : A) → Some x ≡ Some y → x ≡ y
-some_same x y e = cc
 
 -- the replies are read, and the answer to the check; nothing is gathered
 pub gathers_answered : {L : Type 0} (dialogue : L → List Piece) (d e : Dialogue L) (owed : ℕ) (got1 unread1 : List ℕ) (item : List Token) (reply : Reply)
@@ -110,7 +109,7 @@ gathers_answered dialogue d e owed got1 unread1 item reply gets owed_is sent_on 
     let base = empty_level ∷ [] in
     let before = w.answered ++ w.waiting in
     let successes = reads.2 in
-    let number : owed ≡ length w.waiting = some_same owed (length w.waiting) (sym owed_is ∙ w.owed_is) in
+    let number : owed ≡ length w.waiting = same_Some owed (length w.waiting) (sym owed_is ∙ w.owed_is) in
     let replies : Answers w.waiting successes = successes_to w.waiting successes w.plain (reads.4 ∙ number) reads.5 in
     let lawful_before : Answers before (w.items ++ successes) = answers_join w.answered w.waiting w.items successes w.lawful replies in
     let last : Answers (CheckSat ∷ []) (item ∷ []) = (rw is refl, tt) in

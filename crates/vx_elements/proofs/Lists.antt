@@ -1,8 +1,8 @@
 -- What holds of each item of a list, and names that are found the same.
-use Rattle.std.proofs.Common.{◌≡◌, Bool, true, false, ◌&&◌, [], ◌∷◌, List, ◌++◌, refl, ap₂, eq-eqb, eqb-true}
+use Rattle.std.proofs.Common.{◌≡◌, true, ◌&&◌, [], ◌∷◌, List, ◌++◌, refl, ap₂, eq-eqb, eqb-true}
+use Rattle.std.proofs.lemmas.Bool.{and_from, and_parts}
 use Rattle.vx_ast.specs.Syntax.{Name, same_name}
 use Rattle.vx_terms.specs.Interpretations.{Each}
-use Rattle.vx_terms.proofs.Same.{and_parts}
 
 pub each_map : {A : Type 0} (P Q : A → Type 0) → ((x : A) → P x → Q x) → (xs : List A) → Each P xs → Each Q xs
 each_map P Q f [] h = tt
@@ -32,8 +32,4 @@ each_both P Q R f (x ∷ xs) h k = (f x h.0 k.0, each_both P Q R f xs h.1 k.1)
 
 pub name_same : (x : Name) → same_name x x ≡ true
 name_same [] = refl
-name_same (a ∷ x) = both (eq-eqb a a refl) (name_same x)
-  where
-    both : {a b : Bool} → a ≡ true → b ≡ true → (a && b) ≡ true
-    both {a = true} e f = f
-    both {a = false} e f = e
+name_same (a ∷ x) = and_from _ _ (eq-eqb a a refl) (name_same x)

@@ -1,9 +1,10 @@
 -- Candidates are chunks of their field or predicate in their places in the list, and what holds of the chunks around a place.
 use Rattle.std.proofs.Common.{◌≡◌, ℕ, suc, Bool, true, false, cond, ◌&&◌, [], ◌∷◌, ◌++◌, length, drop, slice_set, refl, sym, ◌∙◌, ap, ap₂, subst, append_assoc}
 use Rattle.std.proofs.Math.Seq.{take-append_seam, set-append_seam}
+use Rattle.std.proofs.lemmas.Bool.{and_parts}
 use Rattle.vx_terms.specs.Terms.{same_bool}
 use Rattle.vx_terms.specs.Interpretations.{Each}
-use Rattle.vx_terms.proofs.Same.{and_parts, bool_is}
+use Rattle.vx_terms.proofs.Same.{bool_is}
 use Rattle.vx_rules.specs.States.{Chunk, Heap}
 use Rattle.vx_rules.specs.Chunks.{Candidate, is_kin, same_arguments, chosen, candidates, without}
 use Rattle.vx_elements.proofs.Lists.{name_is, each_append}

@@ -1,12 +1,13 @@
 -- When the terms that the rules build are true, and what amounts they have.
 use Rattle.std.proofs.Common.{◌≡◌, ℕ, Bool, true, false, not, cond, inr, refl, sym, ◌∙◌, ap, ap₂, subst, true≢false, eqb-true}
+use Rattle.std.proofs.lemmas.Bool.{and_parts}
 use Rattle.vx_frac.specs.Fractions.{none, full, at_most, is_below, sum, difference, product, lowest}
 use Rattle.vx_terms.specs.Sorts.{BoolSort, RealSort, RefSort, Standard, Add, Subtract, Multiply, Less, LessEqual}
 use Rattle.vx_terms.specs.Terms.{Term}
 use Rattle.vx_terms.specs.Build.{negate, and, implies, equals, less, less_equal, add, subtract, multiply, null, zero_amount, whole_amount}
 use Rattle.vx_terms.specs.Interpretations.{Tree, Empty, IntLeaf, BoolLeaf, RefLeaf, PermLeaf, Pair, Element, IntElement, BoolElement, RealElement, TreeElement, as_bool, as_fraction, same_tree, same_element, Interpretation, operate, value, IsTrueIn}
 use Rattle.vx_terms.specs.Formed.{part, constant}
-use Rattle.vx_terms.proofs.Same.{and_parts, int_is, bool_is, fraction_is}
+use Rattle.vx_terms.proofs.Same.{int_is, bool_is, fraction_is}
 use Rattle.vx_terms.proofs.Values.{real_element, value_of_sort, element_same}
 use Rattle.vx_terms.proofs.Build.{negate_value, and_value, implies_value, equals_value, less_value, less_equal_value, add_value, subtract_value, multiply_value}
 use Rattle.vx_elements.proofs.Settled.{Meaning}

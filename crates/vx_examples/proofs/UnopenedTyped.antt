@@ -1,5 +1,6 @@
 -- The program whose failure isn't real is typed.
 use Rattle.std.proofs.Common.{◌≡◌, inl, ◌<◌, ℕ, zero, suc, Bool, true, false, Option, Some, None, slice_get, refl, subst, ap, ◌∙◌, arith}
+use Rattle.std.proofs.lemmas.Option.{same_Some}
 use Rattle.vx_frac.specs.Fractions.{over}
 use Rattle.vx_ast.specs.declared.ValueType.TheVariants.{Int}
 use Rattle.vx_ast.specs.declared.ValueType.TheVariants as type
@@ -24,27 +25,24 @@ by_name P at_f at_positive at_m at_none y = go (same_name y f) (same_name y posi
     go false false true = at_m
     go false false false = at_none
 
-some_is : {A : Type 0} (a b : A) → Some a ≡ Some b → a ≡ b
-some_is a b e = cc
-
 nothing : {A R : Type 0} (a : A) → (let o : Option A = None in o) ≡ Some a → R
 nothing a e = cc
 
 the_predicate : (y : Name) (d : Predicate) → predicate_named hidden y ≡ Some d → hidden_positive ≡ d
 the_predicate = by_name (λ o. (d : Predicate) → predicate_in o ≡ Some d → hidden_positive ≡ d)
-    (λ d e. nothing d e) (λ d e. some_is hidden_positive d e) (λ d e. nothing d e) (λ d e. nothing d e)
+    (λ d e. nothing d e) (λ d e. same_Some hidden_positive d e) (λ d e. nothing d e) (λ d e. nothing d e)
 
 the_method : (y : Name) (n : Method) → method_named hidden y ≡ Some n → hidden_m ≡ n
 the_method = by_name (λ o. (n : Method) → method_in o ≡ Some n → hidden_m ≡ n)
-    (λ n e. nothing n e) (λ n e. nothing n e) (λ n e. some_is hidden_m n e) (λ n e. nothing n e)
+    (λ n e. nothing n e) (λ n e. nothing n e) (λ n e. same_Some hidden_m n e) (λ n e. nothing n e)
 
 no_function : (y : Name) (g : Function) → function_named hidden y ≡ Some g → ⊥
 no_function = by_name (λ o. (g : Function) → function_in o ≡ Some g → ⊥) nothing nothing nothing nothing
 
 named : (n : ℕ) (k : Member) → slice_get hidden n ≡ Some k → member_named hidden k.name ≡ Some k.kind
-named zero k e = subst (λ (k : Member). member_named hidden k.name ≡ Some k.kind) (some_is (record { name = f; kind = IsField Int }) k e) refl
-named (suc zero) k e = subst (λ (k : Member). member_named hidden k.name ≡ Some k.kind) (some_is (record { name = positive; kind = IsPredicate hidden_positive }) k e) refl
-named (suc (suc zero)) k e = subst (λ (k : Member). member_named hidden k.name ≡ Some k.kind) (some_is (record { name = m; kind = IsMethod hidden_m }) k e) refl
+named zero k e = subst (λ (k : Member). member_named hidden k.name ≡ Some k.kind) (same_Some (record { name = f; kind = IsField Int }) k e) refl
+named (suc zero) k e = subst (λ (k : Member). member_named hidden k.name ≡ Some k.kind) (same_Some (record { name = positive; kind = IsPredicate hidden_positive }) k e) refl
+named (suc (suc zero)) k e = subst (λ (k : Member). member_named hidden k.name ≡ Some k.kind) (same_Some (record { name = m; kind = IsMethod hidden_m }) k e) refl
 named (suc (suc (suc n))) k e = cc
 
 one_positive : 0 < 1
@@ -73,7 +71,7 @@ content = Both (Points (at 2 30) (Variable (at 2 34) x) f (Part (at 2 30) 1 1)) 
 
 -- what holds of the one body
 each_body : (Q : Assertion → Type 0) → Q content → (y : Name) (d : Predicate) (a : Assertion) → predicate_named hidden y ≡ Some d → d.body ≡ Some a → Q a
-each_body Q q y d a named body = subst Q (some_is content a (ap (λ (d : Predicate). d.body) (the_predicate y d named) ∙ body)) q
+each_body Q q y d a named body = subst Q (same_Some content a (ap (λ (d : Predicate). d.body) (the_predicate y d named) ∙ body)) q
 
 enters_nothing : (y : Name) (d : Predicate) (z : Name) → predicate_named hidden y ≡ Some d → Stands z (entered_by_body d.body) → ⊥
 enters_nothing y d z e st = subst (λ (d : Predicate). Stands z (entered_by_body d.body) → ⊥) (the_predicate y d e) (λ s. s) st

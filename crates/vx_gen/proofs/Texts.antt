@@ -1,9 +1,9 @@
 -- The generated text is UTF-8, and short enough.
-use Rattle.std.proofs.Common.{◌≡◌, ℕ, zero, suc, ◌+◌, ◌*◌, ◌≤◌, ◌%◌, List, [], ◌∷◌, ◌++◌, length, Bool, true, false, ltb, ◌&&◌, refl, arith, length-append}
+use Rattle.std.proofs.Common.{◌≡◌, ℕ, zero, suc, ◌+◌, ◌*◌, ◌≤◌, ◌%◌, List, [], ◌∷◌, ◌++◌, length, Bool, true, ltb, ◌&&◌, refl, arith, length-append}
 use Rattle.std.specs.Prelude.{codes}
 use Rattle.std.specs.Fmt.{decimal}
 use Rattle.std.specs.Str.{IsUtf8, IsAscii}
-use Rattle.std.proofs.lemmas.Bool.{ltb-true}
+use Rattle.std.proofs.lemmas.Bool.{ltb-true, and_parts}
 use Rattle.std.proofs.lemmas.Str.{IsAscii-append, IsUtf8-from_ascii}
 use Rattle.std.proofs.lemmas.Str.Ascii.{IsAscii-nil, IsAscii-cons}
 use Rattle.vx_gen.specs.Generated as text
@@ -17,14 +17,10 @@ are_small : List ℕ → Bool
 are_small [] = true
 are_small (b ∷ bs) = ltb b 128 && are_small bs
 
-both : (a b : Bool) → (a && b) ≡ true → (a ≡ true) × (b ≡ true)
-both true b e = (refl, e)
-both false b e = absurd cc
-
 plain : (bs : List ℕ) → are_small bs ≡ true → IsAscii bs
 unfolding are_small
 plain [] e = IsAscii-nil
-plain (b ∷ bs) e = let p = both (ltb b 128) (are_small bs) e in IsAscii-cons b bs (ltb-true b 128 p.0) (plain bs p.1)
+plain (b ∷ bs) e = let p = and_parts (ltb b 128) (are_small bs) e in IsAscii-cons b bs (ltb-true b 128 p.0) (plain bs p.1)
 
 joined_ascii : (x d m b : List ℕ) → IsAscii x → IsAscii d → IsAscii m → IsAscii b → IsAscii (x ++ d ++ m ++ d ++ b)
 joined_ascii x d m b h i j k = IsAscii-append (x ++ d ++ m ++ d) b (IsAscii-append (x ++ d ++ m) d (IsAscii-append (x ++ d) m (IsAscii-append x d h i) j) i) k

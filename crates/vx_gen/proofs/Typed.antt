@@ -15,6 +15,7 @@ use Rattle.vx_typing.specs.Programs.{IsTyped}
 use Rattle.vx_typing.proofs.Agree as agree
 use Rattle.vx_gen.specs.Programs.{Columns, line, digits, first_members, methods, program_of, method_on, method_by}
 use Rattle.std.proofs.lemmas.List.{append-nil}
+use Rattle.std.proofs.lemmas.Bool.{and_parts, or_from, or_parts}
 use Rattle.vx_gen.proofs.Numbers.{numeral_is, numeral_long}
 
 -- ---- members, by what the first six names stand for
@@ -44,10 +45,6 @@ program_members : (n : ℕ) → AreTypedMembers (table_of (program_of n)) (progr
 program_members n = let rest = table_of (methods n) in more_typed (first_table rest) first_members (methods n) (first_typed rest) (methods_typed rest n)
 
 -- ---- names
-
-and_parts : (a b : Bool) → (a && b) ≡ true → (a ≡ true) × (b ≡ true)
-and_parts true b e = (refl, e)
-and_parts false b e = absurd cc
 
 same_is : (x y : Name) → same_name x y ≡ true → x ≡ y
 same_is [] [] h = refl
@@ -96,23 +93,15 @@ other_name (suc (suc j)) (suc (suc k)) f m g f' m' g' a b h = h
 other_digits : (a b : ℕ) → b < a → a ≤ 2000 → same_name (decimal a) (decimal b) ≡ false
 other_digits a b lt le = names_differ (decimal a) (decimal b) (λ e. let same = decimal_injective a b (omega (arith, le)) (omega (arith, lt, le)) e in omega (arith, lt, same))
 
-or_none : (a b : Bool) → a ≡ false → b ≡ false → (a || b) ≡ false
-or_none true b h k = absurd (true≢false h)
-or_none false b h k = k
-
-neither : (a b : Bool) → (a || b) ≡ false → (a ≡ false) × (b ≡ false)
-neither true b h = absurd (true≢false h)
-neither false b h = (refl, h)
-
 among_neither : (x : Name) (ms ns : List Member) → is_among x (names_of ms) ≡ false → is_among x (names_of ns) ≡ false → is_among x (names_of (ms ++ ns)) ≡ false
 among_neither x [] ns h k = k
-among_neither x (m ∷ ms) ns h k = let both = neither (same_name x (name_of m)) (is_among x (names_of ms)) h in or_none _ _ both.0 (among_neither x ms ns both.1 k)
+among_neither x (m ∷ ms) ns h k = let both = or_parts (same_name x (name_of m)) (is_among x (names_of ms)) h in or_from _ _ both.0 (among_neither x ms ns both.1 k)
 
 not_earlier : (n m l : ℕ) → m ≤ n → n ≤ 2000 → is_among (name_of (method_on l n)) (names_of (methods m)) ≡ false
 not_earlier n zero l le few = refl
 not_earlier n (suc m) l le few =
     among_neither (name_of (method_on l n)) (methods m) (method_on (7 + m) m ∷ []) (not_earlier n m l (omega (arith, le)) few)
-    (or_none _ false (other_name (n % 3) (m % 3) _ _ _ _ _ _ n m (other_digits n m (omega (arith, le)) few)) refl)
+    (or_from _ false (other_name (n % 3) (m % 3) _ _ _ _ _ _ n m (other_digits n m (omega (arith, le)) few)) refl)
 
 new_more : (before : List Name) (ms : List Member) (m : Member) → AreNew before (placed_names ms) → is_among (name_of m) (before ++ names_of ms) ≡ false → AreNew before (placed_names (ms ++ m ∷ []))
 new_more before [] m h k = (subst (λ l. is_among (name_of m) l ≡ false) (append-nil before) k, tt)

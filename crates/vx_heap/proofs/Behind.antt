@@ -1,9 +1,10 @@
 -- The candidates behind a put, from the heap in front of it.
 use Rattle.std.proofs.Common.{◌≡◌, ◌+◌, ℕ, suc, Bool, true, false, ◌&&◌, List, [], ◌∷◌, ◌++◌, length, refl, sym, ap, ap₂, ◌∙◌, append-nil, arith}
 use Rattle.std.specs.Prelude.{if◌then◌else◌, slice_set}
+use Rattle.std.proofs.lemmas.Bool.{and_parts}
 use Rattle.vx_ast.specs.Syntax.{same_name}
 use Rattle.vx_terms.specs.Terms.{same_bool}
-use Rattle.vx_terms.proofs.Same.{and_parts, bool_is}
+use Rattle.vx_terms.proofs.Same.{bool_is}
 use Rattle.vx_rules.proofs.Names.{same_name_is}
 use Rattle.vx_rules.specs.States.{Chunk, Heap}
 use Rattle.vx_rules.specs.Chunks.{Candidate, is_kin, same_arguments, chosen, candidates, first_argument, merged, put_over, bounding, at_most_three, whole_fact}

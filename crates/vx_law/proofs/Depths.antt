@@ -1,6 +1,7 @@
 -- At every depth of the rules, and however deep applications are checked, the parts of other members lead on along quiet walks.
 use Rattle.std.proofs.Common.{◌≡◌, ℕ, zero, suc, true, false, Option, Some, None, refl, ◌∙◌, ap, subst}
 use Rattle.std.specs.Prelude.{Ok, Err}
+use Rattle.std.proofs.lemmas.Option.{same_Some}
 use Rattle.vx_frac.specs.Fractions.{Fraction}
 use Rattle.vx_ast.specs.declared.Place.{Place}
 use Rattle.vx_ast.specs.Syntax.{Name, Program, Predicate, Function, predicate_named, function_named, Assertion, Pure, Points, Both, Implied, Chosen, place_of}
@@ -17,7 +18,7 @@ use Rattle.vx_elements.proofs.Settled.{Meaning}
 use Rattle.vx_sound.proofs.World.{World}
 use Rattle.vx_sound.proofs.Speaks as instances
 use Rattle.vx_sound_preds.specs.Bodies.{GoodBodies}
-use Rattle.vx_sound_preds.proofs.Fitting.{undo, some_is}
+use Rattle.vx_sound_preds.proofs.Fitting.{undo}
 use Rattle.vx_sound_preds.proofs.Framing.{ok_same}
 use Rattle.vx_sound_preds.proofs.Holding.{quiet_world}
 use Rattle.vx_sound_funcs.specs.Firm.{firmly, GoodFunctions}
@@ -52,7 +53,7 @@ kept_choice at (RefValue z) x y s t h k e = cc
 kept_choice at (PermValue z) x y s t h k e = cc
 
 some_of : {A : Type 0} (x : Checked A) (a : A) → to_option x ≡ Some a → x ≡ Ok a
-some_of (Ok b) a e = ap Ok (some_is b a e)
+some_of (Ok b) a e = ap Ok (same_Some b a e)
 some_of (Err at) a e = cc
 
 module _ (p : Program) (d : Deeper) (q : Fraction) where

@@ -1,6 +1,7 @@
 -- A typed function whose precondition can be taken where it doesn't start: its walk doesn't pass.
 use Rattle.std.proofs.Common.{◌≡◌, inl, inr, ℕ, zero, suc, Bool, true, false, cond, List, [], ◌∷◌, Option, Some, None, slice_get, ◌<◌, refl, subst, arith, le_refl}
 use Rattle.std.specs.Prelude.{Ok, Err, Contains}
+use Rattle.std.proofs.lemmas.Option.{same_Some}
 use Rattle.vx_frac.specs.Fractions.{none, full, at_most, is_positive, over, sum}
 use Rattle.vx_ast.specs.declared.Place.{Place}
 use Rattle.vx_ast.specs.declared.ValueType.TheVariants.{Int}
@@ -23,7 +24,6 @@ use Rattle.vx_meaning.specs.Fails.{FunctionStarts}
 use Rattle.vx_meaning.specs.Group.{ReachesBy}
 use Rattle.vx_sound_preds.specs.Covered.{IsStocked}
 use Rattle.vx_sound_preds.specs.Examples.{here, x, f}
-use Rattle.vx_sound_preds.proofs.Fitting.{some_is}
 use Rattle.vx_sound_funcs.specs.Told.{precondition_of}
 use Rattle.vx_sound_funcs.specs.Examples.{field_of}
 use Rattle.vx_sound_funcs.proofs.Steps.{nothing_some}
@@ -53,7 +53,7 @@ each_function Q q y g e = go (same_name y f) (same_name y eager) e
   where
     go : (a b : Bool) → function_in (elim a as (λ z. Option Kind) [ true ↦ Some (IsField Int) | false ↦ elim b as (λ z. Option Kind) [ true ↦ Some (IsFunction reader) | false ↦ None ] ]) ≡ Some g → Q g
     go true b e = nothing_some g e
-    go false true e = subst Q (some_is reader g e) q
+    go false true e = subst Q (same_Some reader g e) q
     go false false e = nothing_some g e
 
 same_member : (a b : Member) → Some a ≡ Some b → a ≡ b

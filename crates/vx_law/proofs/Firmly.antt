@@ -1,6 +1,7 @@
 -- What fits, fits firmly, where each application that is evaluated with it keeps its promise and is allowed where it is taken.
 use Rattle.std.proofs.Common.{◌≡◌, ℕ, zero, suc, ◌+◌, ◌≤◌, Bool, true, false, cond, List, ◌∷◌, ◌++◌, Some, refl, sym, ◌∙◌, ap, subst, arith}
 use Rattle.std.specs.Prelude.{Ok}
+use Rattle.std.proofs.lemmas.Option.{same_Some}
 use Rattle.vx_ast.specs.declared.Place.{Place}
 use Rattle.vx_ast.specs.declared.ValueType.{ValueType}
 use Rattle.vx_ast.specs.Syntax.{Name, Declaration, Program, Function, function_named, Connective, Multiply, Expr, Number, Connect, Choose, Unfolding, Exprs}
@@ -16,7 +17,7 @@ use Rattle.vx_types.specs.Premises.{IsTypedProgram}
 use Rattle.vx_types.specs.Closure.{InClosure}
 use Rattle.vx_types.specs.Now.{IsOfNow, AreOfNow}
 use Rattle.vx_sound_preds.specs.Covered.{IsStocked}
-use Rattle.vx_sound_preds.proofs.Fitting.{undo, not_failed, some_is}
+use Rattle.vx_sound_preds.proofs.Fitting.{undo, not_failed}
 use Rattle.vx_sound_preds.proofs.Holding.{HoldsInstances, consistent}
 use Rattle.vx_sound_preds.proofs.Speaking.{good}
 use Rattle.vx_sound_funcs.specs.Firm.{firmly, FitsFirmly}
@@ -133,11 +134,11 @@ module _ (p : Program) (x : Name) (typed : IsTypedProgram p) where
   applied_firm zero f g leads named vs types s st v e keeps = nothing_some v e
   applied_firm (suc m) f g leads named vs types s st v e keeps =
       let k = applied_by p m f vs s v e in
-      let t : TakenBy p m g vs s v = subst (λ (g : Function). TakenBy p m g vs s v) (some_is k.g g (sym k.named ∙ named)) k.taken in
+      let t : TakenBy p m g vs s v = subst (λ (g : Function). TakenBy p m g vs s v) (same_Some k.g g (sym k.named ∙ named)) k.taken in
       let at = keeps.1 vs types s (consistent p (good p x typed) Held true s refl st) (stocked p x true s.heap s.holdings st) t.rest (takes_from p m g vs s v t) in
       let allowed = at.1 keeps.0 in
       let one = deeper_more p allowed.applied.0 (suc m) in
-      let same = some_is allowed.value v (sym (allowed.applied.1 (allowed.applied.0 + suc m) (omega arith)) ∙ one.applied f vs s v e) in
+      let same = same_Some allowed.value v (sym (allowed.applied.1 (allowed.applied.0 + suc m) (omega arith)) ∙ one.applied f vs s v e) in
       (suc allowed.fuel, allowed.firm ∙ ap Some same)
 
   in_first : (xs ys zs : List Application) (a : Application) → In xs a → In ((xs ++ ys) ++ zs) a

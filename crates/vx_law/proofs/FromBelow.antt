@@ -2,6 +2,8 @@
 -- below that one keep their promises.
 use Rattle.std.proofs.Common.{◌≡◌, ◌⊎◌, inl, inr, ℕ, zero, suc, ◌<◌, Bool, true, false, ◌||◌, List, [], ◌∷◌, ◌++◌, length, Option, Some, None, refl, sym, ◌∙◌, ap, subst, arith, true≢false}
 use Rattle.std.specs.Prelude.{Contains, flat_map}
+use Rattle.std.proofs.lemmas.Bool.{or_cases, and_parts}
+use Rattle.std.proofs.lemmas.Option.{same_Some}
 use Rattle.vx_ast.specs.declared.ValueType.{ValueType}
 use Rattle.vx_ast.specs.declared.ValueType.TheVariants as type
 use Rattle.vx_ast.specs.Syntax.{Name, same_name, Declaration, Program, Function, Measure, Connective, function_named, Expr, Number, Truth, Null, Part, Variable, Not, Operate, Divide, Connect, Choose, Read, Old, Apply, Unfolding, Exprs, NoMore, More, conjoined}
@@ -16,11 +18,9 @@ use Rattle.vx_meaning.specs.Fails.{Application, applied_to, of_right, chosen, ev
 use Rattle.vx_meaning.specs.Group.{Reaches, ReachesBy, InGroup}
 use Rattle.vx_rules.specs.Groups.{leads_to, reaches_by, is_in_group}
 use Rattle.vx_rules.proofs.Names.{same_name_is}
-use Rattle.vx_terms.proofs.Same.{and_parts}
 use Rattle.vx_types.specs.Typing.{Scope, HasType, number, truth, nulls, part, variable, nots, operates, scales, divides, connects, chooses, reads, olds, applies, unfoldings, HaveTypes, no_more, more}
 use Rattle.vx_types.specs.Premises.{IsTypedProgram}
 use Rattle.vx_types.specs.Closure.{InClosure}
-use Rattle.vx_sound_preds.proofs.Fitting.{some_is}
 use Rattle.vx_sound_preds.proofs.Typed.{on_left, on_right}
 use Rattle.vx_sound_funcs.specs.Firm.{GoodFunctions}
 use Rattle.vx_sound.proofs.Conjoined.{conjoined_typed}
@@ -146,7 +146,7 @@ module _ (p : Program) (typed : IsTypedProgram p) (n : ℕ) where
     evaluated_typed s ty (applies f {es = es} g is ks) a h =
         of_either (evaluated_in p n s es) (applied_to f (values p (applications p n) s es)) a (all_typed s ty ks a)
         (of_applied_to f (values p (applications p n) s es) a (λ vs at e.
-        subst HasArguments e (λ d named. subst (λ (d : Function). run.HaveTypes d.parameters vs) (some_is g d (sym is ∙ named)) (have_types p typed.functions n (applications_typed p typed.functions n) s ty ks vs at)))) h
+        subst HasArguments e (λ d named. subst (λ (d : Function). run.HaveTypes d.parameters vs) (same_Some g d (sym is ∙ named)) (have_types p typed.functions n (applications_typed p typed.functions n) s ty ks vs at)))) h
     evaluated_typed s ty (unfoldings i {es = es} {share = share} {e = e} d is ks kq k) a h =
         of_either (evaluated p n s share ++ evaluated_in p n s es) (evaluated p n s e) a (of_either (evaluated p n s share) (evaluated_in p n s es) a (evaluated_typed s ty kq a) (all_typed s ty ks a)) (evaluated_typed s ty k a) h
 
@@ -155,10 +155,6 @@ module _ (p : Program) (typed : IsTypedProgram p) (n : ℕ) where
     all_typed s ty (more {e = e} {es = es} k ks) a h = of_either (evaluated p n s e) (evaluated_in p n s es) a (evaluated_typed s ty k a) (all_typed s ty ks a) h
 
 -- Groups
-
-or_cases : (a b : Bool) → (a || b) ≡ true → (a ≡ true) ⊎ (b ≡ true)
-or_cases true b e = inl refl
-or_cases false b e = inr e
 
 abbrev LedBy : (Name → Bool) → Name → List Name → Type 0
 LedBy reaches g xs = (x : Name) × Stands x xs × ((g ≡ x) ⊎ (reaches x ≡ true))

@@ -1,6 +1,7 @@
 -- What is added in states that can be is given, where its pure parts are true.
 use Rattle.std.proofs.Common.{◌≡◌, inl, ℕ, Bool, true, false, cond, [], ◌∷◌, ◌++◌, Some, None, refl, sym, ◌∙◌, ap, subst, le_refl}
 use Rattle.std.specs.Prelude.{Ok, option_and_then}
+use Rattle.std.proofs.lemmas.Option.{same_Some}
 use Rattle.vx_frac.specs.Fractions.{Fraction, full, product}
 use Rattle.vx_ast.specs.declared.Place.{Place}
 use Rattle.vx_ast.specs.Syntax.{Name, Program, Expr, Exprs, place_of, Assertion, Pure, Points, Both, Implied, Chosen}
@@ -19,7 +20,7 @@ use Rattle.vx_sound.proofs.Fuel.{one_value}
 use Rattle.vx_sound_preds.specs.Asking.{asking_entries, IsAsking}
 use Rattle.vx_sound_preds.specs.Bodies.{GoodBodies}
 use Rattle.vx_sound_preds.proofs.Asked.{held_entries, asking_positive}
-use Rattle.vx_sound_preds.proofs.Fitting.{undo, step, some_is}
+use Rattle.vx_sound_preds.proofs.Fitting.{undo, step}
 use Rattle.vx_sound_preds.proofs.Flats.{came}
 use Rattle.vx_sound_preds.proofs.Framing.{ok_same, field_parts, instance_parts}
 use Rattle.vx_sound_preds.proofs.Adding.{added, added_append, location_entries, instance_entries}
@@ -179,7 +180,7 @@ module _ (p : Program) (good : GoodBodies p) (Held : Name → Type 0) (m : ℕ) 
   gives (Both a b) s es k none listed holds ev =
       let x = came (asking_entries p (applications p m) s a) (λ xs. option_and_then (λ ys. Some (xs ++ ys)) (asking_entries p (applications p m) s b)) es listed in
       let y = came (asking_entries p (applications p m) s b) (λ ys. Some (x.it ++ ys)) es x.then in
-      both_give a b s es x.it y.it x.is y.is (some_is (x.it ++ y.it) es y.then) k.0 k.1 none holds ev (gives a s x.it) (gives b (with_added x.it s) y.it)
+      both_give a b s es x.it y.it x.is y.is (same_Some (x.it ++ y.it) es y.then) k.0 k.1 none holds ev (gives a s x.it) (gives b (with_added x.it s) y.it)
   gives (Implied c a) s es k none listed holds ev =
       let x = came (value p (applications p m) s c) (λ v. plain.choose v (asking_entries p (applications p m) s a) (Some [])) es listed in
       implied_give c a s es x.it (m, x.is) x.then k.1 none holds ev (gives a s es)

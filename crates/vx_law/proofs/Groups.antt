@@ -2,6 +2,7 @@
 -- no longer than the program.
 use Rattle.std.proofs.Common.{◌≡◌, ◌⊎◌, inl, inr, ℕ, zero, suc, ◌<◌, ◌≤◌, Bool, true, false, ◌||◌, ◌&&◌, List, [], ◌∷◌, length, Option, Some, None, refl, sym, ◌∙◌, ap, subst, arith, true≢false}
 use Rattle.std.specs.Prelude.{Contains}
+use Rattle.std.proofs.lemmas.Bool.{and_from, and_parts}
 use Rattle.vx_ast.specs.Syntax.{Name, same_name, Program, Function, function_named}
 use Rattle.vx_ast.specs.Mentions.{mentions_of, mentioned_by_function}
 use Rattle.vx_ast.specs.Apart.{Stands}
@@ -9,7 +10,6 @@ use Rattle.vx_rules.specs.Groups.{leads_to, reaches_by, is_in_group}
 use Rattle.vx_rules.proofs.Names.{same_name_is}
 use Rattle.vx_meaning.specs.Group.{Mentions, ReachesBy, Reaches, InGroup}
 use Rattle.vx_elements.proofs.Lists.{name_same}
-use Rattle.vx_terms.proofs.Same.{and_parts}
 use Rattle.vx_law.specs.Measures.{GroupsAgree}
 use Rattle.vx_law.proofs.Names.{names_of, named_stands, without, stays_in, fewer_names}
 
@@ -52,10 +52,6 @@ third_true : (a b c : Bool) → c ≡ true → (a || b || c) ≡ true
 third_true true b c e = refl
 third_true false true c e = refl
 third_true false false c e = e
-
-both_true : (a b : Bool) → a ≡ true → b ≡ true → (a && b) ≡ true
-both_true true b e f = f
-both_true false b e f = e
 
 -- one of these names is g, or passes
 record Leads (q : Name → Bool) (g : Name) (ys : List Name) : Type 0 where
@@ -165,4 +161,4 @@ groups_agree p f g = (there, back)
     there e = let q = and_parts _ _ e in ((length p, told p g (length p) f q.0), (length p, told p f (length p) g q.1))
 
     back : InGroup p f g → is_in_group p f g ≡ true
-    back k = both_true (reaches_by p (length p) f g) (reaches_by p (length p) g f) (decided p g f k.0) (decided p f g k.1)
+    back k = and_from (reaches_by p (length p) f g) (reaches_by p (length p) g f) (decided p g f k.0) (decided p f g k.1)

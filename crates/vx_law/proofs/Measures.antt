@@ -3,6 +3,8 @@
 use Rattle.std.proofs.Common.{◌≡◌, ◌⊎◌, inl, inr, ℕ, zero, suc, ◌≤◌, ℤ, pos, negsuc, ◌≤ℤ◌, ◌<ℤ◌, Bool, true, false, cond, List, [], ◌∷◌, ◌++◌, length, Some, refl, sym, ◌∙◌, ap, subst, arith, true≢false}
 use Rattle.std.specs.Prelude.{option_and_then}
 use Rattle.std.proofs.lemmas.Int.{ints}
+use Rattle.std.proofs.lemmas.Option.{same_Some}
+use Rattle.std.proofs.lemmas.Bool.{and_parts}
 use Rattle.vx_frac.specs.Fractions.{Fraction, none, sum}
 use Rattle.vx_ast.specs.Syntax.{Name, Program, Function, ByNumber, ByInstance, predicate_named, function_named}
 use Rattle.vx_ast.specs.Syntax as syntax
@@ -17,9 +19,7 @@ use Rattle.vx_meaning.specs.Flatten.{bare, body_entries, within, with_inner, fla
 use Rattle.vx_meaning.specs.Fails.{Measure, Number, Inside, number_of, HasMeasure, Lowers}
 use Rattle.vx_meaning.specs.Group.{Reaches}
 use Rattle.vx_amounts.proofs.Amounts.{Positive, le-refl, not-positive}
-use Rattle.vx_terms.proofs.Same.{and_parts}
 use Rattle.vx_sound_preds.specs.Bodies.{IsRigid, AreRigid}
-use Rattle.vx_sound_preds.proofs.Fitting.{some_is}
 use Rattle.vx_sound_preds.proofs.Flats.{came, flat_more, flat_single}
 use Rattle.vx_sound_preds.proofs.Grouped.{resource_is}
 use Rattle.vx_sound_preds.proofs.Holding.{typed_rigid}
@@ -102,16 +102,16 @@ module _ (p : Program) (h : Heap) where
   FlatWithin n = (i : Instance) (y : Holdings) → flat p n h i ≡ Some y → AllFlat n y
 
   inner_flat : (n : ℕ) → FlatWithin n → (es y : Holdings) → with_inner (flat p n h) es ≡ Some y → AllFlat n y
-  inner_flat n ih [] y e = subst (AllFlat n) (some_is [] y e) tt
+  inner_flat n ih [] y e = subst (AllFlat n) (same_Some [] y e) tt
   inner_flat n ih ((At l, q) ∷ rest) y e =
       let z = came (with_inner (flat p n h) rest) (λ more. Some ((At l, q) ∷ more)) y e in
-      subst (AllFlat n) (some_is ((At l, q) ∷ z.it) y z.then) (inner_flat n ih rest z.it z.is)
+      subst (AllFlat n) (same_Some ((At l, q) ∷ z.it) y z.then) (inner_flat n ih rest z.it z.is)
   inner_flat n ih ((Folded i, q) ∷ rest) y e =
       let x = came (within (flat p n h) (Folded i) q) (λ inner. option_and_then (λ more. Some ((Folded i, q) ∷ (inner ++ more))) (with_inner (flat p n h) rest)) y e in
       let w = came (flat p n h i) (λ inner. Some (scaled q inner)) x.it x.is in
       let z = came (with_inner (flat p n h) rest) (λ more. Some ((Folded i, q) ∷ (x.it ++ more))) y x.then in
-      let inside = subst (AllFlat n) (some_is (scaled q w.it) x.it w.then) (all_scaled n q w.it (ih i w.it w.is)) in
-      subst (AllFlat n) (some_is ((Folded i, q) ∷ (x.it ++ z.it)) y z.then) ((w.it, w.is), all_both n x.it z.it inside (inner_flat n ih rest z.it z.is))
+      let inside = subst (AllFlat n) (same_Some (scaled q w.it) x.it w.then) (all_scaled n q w.it (ih i w.it w.is)) in
+      subst (AllFlat n) (same_Some ((Folded i, q) ∷ (x.it ++ z.it)) y z.then) ((w.it, w.is), all_both n x.it z.it inside (inner_flat n ih rest z.it z.is))
 
   flat_next : (n : ℕ) → FlatWithin n → (i : Instance) (y : Holdings) → flat p (suc n) h i ≡ Some y → AllFlat n y
   flat_next n ih i y e =
@@ -214,7 +214,7 @@ module _ (p : Program) (typed : IsTypedProgram p) (h : Heap) where
   measure_rigid g vs types (ByNumber e) t m (n, is) = let x = came (value_by p n (bare (bind g.parameters vs) h) e) number_of m is in by_value x.it x.then
     where
       by_value : (v : Value) → number_of v ≡ Some m → IsRigidMeasure p h m
-      by_value (IntValue z) e = subst (IsRigidMeasure p h) (some_is (Number z) m e) tt
+      by_value (IntValue z) e = subst (IsRigidMeasure p h) (same_Some (Number z) m e) tt
       by_value (BoolValue z) e = nothing_some m e
       by_value (RefValue z) e = nothing_some m e
       by_value (PermValue z) e = nothing_some m e
@@ -222,7 +222,7 @@ module _ (p : Program) (typed : IsTypedProgram p) (h : Heap) where
       let inside = λ (ws : List Value). let j : Instance = record { predicate = i; arguments = ws } in Some (Inside j) in
       let x = came (values p (applications p n) (bare (bind g.parameters vs) h) es) inside m is in
       let ws = have_types p typed.functions n (applications_typed p typed.functions n) (bare (bind g.parameters vs) h) (λ y t w a b. found_type y t g.parameters vs w types a b) t.2 x.it x.is in
-      subst (IsRigidMeasure p h) (some_is (Inside record { predicate = i; arguments = x.it }) m x.then) (typed_rigid t.0.parameters x.it (let y = typed.predicates i t.0 t.1 in y.parameters) ws)
+      subst (IsRigidMeasure p h) (same_Some (Inside record { predicate = i; arguments = x.it }) m x.then) (typed_rigid t.0.parameters x.it (let y = typed.predicates i t.0 t.1 in y.parameters) ws)
 
   -- an application with a lesser measure, and both measures
   record Falls (g : Function) (vs : List Value) (g' : Function) (vs' : List Value) : Type 0 where

@@ -1,20 +1,21 @@
 -- An instance that is exchanged for its body, in a state that can be: what is known of what is held goes on.
 use Rattle.std.proofs.Common.{◌≡◌, ℕ, zero, suc, true, Option, Some, None, refl, sym, ◌∙◌, subst}
 use Rattle.std.specs.Prelude.{Ok}
+use Rattle.std.proofs.lemmas.Option.{same_Some}
+use Rattle.std.proofs.lemmas.Bool.{and_parts}
 use Rattle.vx_frac.specs.Fractions.{Fraction}
 use Rattle.vx_ast.specs.Syntax.{Name, Program, Predicate, predicate_named, Assertion}
 use Rattle.vx_meaning.specs.States as run
 use Rattle.vx_meaning.specs.States.{State, Instance, Folded, amount, lost, bind, with_store, with_holdings}
 use Rattle.vx_meaning.specs.Flatten.{bare}
 use Rattle.vx_meaning.specs.Fits.{◌>>=◌, to_option, Deeper, has_instance, add, exchange, deeper}
-use Rattle.vx_terms.proofs.Same.{and_parts}
 use Rattle.vx_types.specs.Premises.{IsTypedProgram}
 use Rattle.vx_types.specs.Closure.{InClosure}
 use Rattle.vx_amounts.proofs.Amounts.{Le, Positive, positive-le}
 use Rattle.vx_amounts.proofs.Products.{positive_le}
 use Rattle.vx_sound.proofs.World.{IsTypedInstance}
 use Rattle.vx_sound_preds.specs.Bodies.{Rigid, IsPlainBody}
-use Rattle.vx_sound_preds.proofs.Fitting.{undo, some_is, Opens}
+use Rattle.vx_sound_preds.proofs.Fitting.{undo, Opens}
 use Rattle.vx_sound_preds.proofs.Framing.{entries_seen, ok_same}
 use Rattle.vx_sound_preds.proofs.Adding.{Fine, Adds, add_adds}
 use Rattle.vx_sound_preds.proofs.Exchanging.{IsOpen, opened, entered_fine, all_open}
@@ -39,7 +40,7 @@ module _ (p : Program) (x : Name) (typed : IsTypedProgram p) where
       let below : Le q (amount s.holdings (Folded i)) = record { holds = parts.1 } in
       let there = positive-le positive below in
       let kind : IsTypedInstance p (InClosure p x) i = held_typed p Held s.holdings st.typed i there in
-      let types = subst (λ (d : Predicate). run.HaveTypes d.parameters i.arguments) (some_is kind.1.0 b (sym kind.1.1 ∙ is)) kind.1.3 in
+      let types = subst (λ (d : Predicate). run.HaveTypes d.parameters i.arguments) (same_Some kind.1.0 b (sym kind.1.1 ∙ is)) kind.1.3 in
       let o : IsOpen p s.heap i b e = opened p s.heap i b e is body (st.grounded i there) in
       let less : HoldsInstances p (InClosure p x) true s.heap (lost (Folded i) q s.holdings) = taken p (good p x typed) Held true s.heap s.holdings (Folded i) q kind (positive_le positive) below st in
       let start : State = with_store (bind b.parameters i.arguments) (with_holdings (lost (Folded i) q s.holdings) s) in

@@ -1,6 +1,7 @@
 -- Measures don't look at what is held; and an application has one measure at most.
 use Rattle.std.proofs.Common.{◌≡◌, ℕ, ◌+◌, List, Option, Some, sym, ◌∙◌, ap, arith}
 use Rattle.std.specs.Prelude.{option_and_then}
+use Rattle.std.proofs.lemmas.Option.{same_Some}
 use Rattle.vx_ast.specs.Syntax.{Name, Program, ByNumber, ByInstance}
 use Rattle.vx_ast.specs.Syntax as syntax
 use Rattle.vx_meaning.specs.Values.{Value}
@@ -9,7 +10,7 @@ use Rattle.vx_meaning.specs.Evaluate.{applications, values, value_by}
 use Rattle.vx_meaning.specs.Fails.{Measure, Inside, number_of, measure_by, HasMeasure}
 use Rattle.vx_sound.proofs.Fuel.{value_more, values_more, applications_later}
 use Rattle.vx_sound.proofs.Stripped.{stripped, value_stripped, values_stripped, applies_stripped}
-use Rattle.vx_sound_preds.proofs.Fitting.{step, some_is}
+use Rattle.vx_sound_preds.proofs.Fitting.{step}
 use Rattle.vx_sound_preds.proofs.Flats.{came}
 
 module _ (p : Program) where
@@ -34,4 +35,4 @@ module _ (p : Program) where
   pub one_measure : (s : State) (e : syntax.Measure) (m k : Measure) → HasMeasure p s e m → HasMeasure p s e k → m ≡ k
   one_measure s e m k a b =
       let z : b.0 + a.0 ≡ a.0 + b.0 = omega arith in
-      some_is m k (sym (measure_more b.0 a.0 s e m a.1) ∙ ap (λ (n : ℕ). measure_by p n s e) z ∙ measure_more a.0 b.0 s e k b.1)
+      same_Some m k (sym (measure_more b.0 a.0 s e m a.1) ∙ ap (λ (n : ℕ). measure_by p n s e) z ∙ measure_more a.0 b.0 s e k b.1)

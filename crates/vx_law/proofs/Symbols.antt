@@ -1,5 +1,6 @@
 -- An interpretation that knows one more application: the symbol of a function has its value there, and all that is settled is kept.
 use Rattle.std.proofs.Common.{◌≡◌, ℕ, Bool, true, false, cond, ◌&&◌, nat_eq, List, [], ◌∷◌, refl, sym, ◌∙◌, ap, ap₂, subst, eq-eqb, eqb-true, le_refl}
+use Rattle.std.proofs.lemmas.Bool.{and_parts}
 use Rattle.vx_ast.specs.Syntax.{Declaration, Function}
 use Rattle.vx_meaning.specs.Values.{Value, type_of}
 use Rattle.vx_terms.specs.Sorts.{Sort, SnapSort, Symbol, Standard, Function as function, Variable, Named}
@@ -27,14 +28,10 @@ all_same [] [] = true
 all_same (d ∷ ds) (e ∷ es) = same_element d e && all_same ds es
 all_same _ _ = false
 
-both_true : (a b : Bool) → (a && b) ≡ true → (a ≡ true) × (b ≡ true)
-both_true true b e = (refl, e)
-both_true false b e = cc
-
 all_same_are : (ds es : List Element) → all_same ds es ≡ true → ds ≡ es
 all_same_are [] [] h = refl
 all_same_are (d ∷ ds) (e ∷ es) h =
-    let k = both_true (same_element d e) (all_same ds es) h in
+    let k = and_parts (same_element d e) (all_same ds es) h in
     ap₂ (λ (x : Element) (xs : List Element). x ∷ xs) (element_equal d e k.0) (all_same_are ds es k.1)
 all_same_are [] (e ∷ es) h = cc
 all_same_are (d ∷ ds) [] h = cc
@@ -61,7 +58,7 @@ module _ (means : Meaning) (n : ℕ) (i : Interpretation) (k : ℕ) (es : List E
       at false m xs old is h = refl
 
       kept : (f : Symbol) (a : Sort) (xs : List Element) → IsSettled means n f xs (i.functions f a xs) → (with_application i k es e).functions f a xs ≡ i.functions f a xs
-      kept (function m) a xs h = at (nat_eq m k && all_same xs es) m xs (i.functions (function m) a xs) (λ z. let r = both_true (nat_eq m k) (all_same xs es) z in (eqb-true m k r.0, all_same_are xs es r.1)) h
+      kept (function m) a xs h = at (nat_eq m k && all_same xs es) m xs (i.functions (function m) a xs) (λ z. let r = and_parts (nat_eq m k) (all_same xs es) z in (eqb-true m k r.0, all_same_are xs es r.1)) h
       kept (Variable m) a xs h = refl
       kept (Standard m) a xs h = refl
       kept (Named x) a xs h = refl

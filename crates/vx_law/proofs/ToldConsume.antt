@@ -1,6 +1,7 @@
 -- An assertion that can be taken leads on along the way of a quiet walk, with a snapshot that is worth its asking tree.
 use Rattle.std.proofs.Common.{◌≡◌, ℕ, Bool, true, false, cond, List, Some, refl, sym, ◌∙◌, ap, subst, le_refl, true≢false}
 use Rattle.std.specs.Prelude.{Ok}
+use Rattle.std.proofs.lemmas.Option.{same_Some}
 use Rattle.vx_frac.specs.Fractions.{Fraction, full, at_most, product}
 use Rattle.vx_ast.specs.declared.Place.{Place}
 use Rattle.vx_ast.specs.declared.ValueType.TheVariants as type
@@ -39,7 +40,7 @@ use Rattle.vx_sound.proofs.Candidates.{InstanceTerms, Keys, of_field, of_instanc
 use Rattle.vx_sound.proofs.Giving.{ScaleStands, scale_later}
 use Rattle.vx_sound_preds.specs.Asking.{IsAsking}
 use Rattle.vx_sound_preds.specs.Bodies.{GoodBodies}
-use Rattle.vx_sound_preds.proofs.Fitting.{Before, undo, some_is}
+use Rattle.vx_sound_preds.proofs.Fitting.{Before, undo}
 use Rattle.vx_sound_preds.proofs.Framing.{FieldParts, InstanceParts, field_parts, instance_parts, ok_same}
 use Rattle.vx_sound_preds.proofs.Holding.{HoldsInstances, quiet_world}
 use Rattle.vx_live.proofs.Speaks.{SpeaksOf}
@@ -252,7 +253,7 @@ module _ (means : Meaning) (p : Program) (good : GoodBodies p) (Held : Name → 
 
         left_is : (k : ℕ) → y.receiver ≡ RefValue k → run.lost (run.At (at_field k f)) (product q y.amount) hs ≡ rest
         left_is k z =
-            let part_is : (run.At (at_field k f), y.amount) ≡ b.it = ap (λ (l : run.Location). let z : run.Resource × Fraction = (run.At l, y.amount) in z) (some_is (at_field k f) y.location (sym (ap (fits.location_of f) z) ∙ y.location_is)) ∙ ok_same {A = run.Resource × Fraction} (run.At y.location, y.amount) b.it y.is in
+            let part_is : (run.At (at_field k f), y.amount) ≡ b.it = ap (λ (l : run.Location). let z : run.Resource × Fraction = (run.At l, y.amount) in z) (same_Some (at_field k f) y.location (sym (ap (fits.location_of f) z) ∙ y.location_is)) ∙ ok_same {A = run.Resource × Fraction} (run.At y.location, y.amount) b.it y.is in
             taken_rest c q at hs rest (run.At (at_field k f)) y.amount (subst (λ z. take_part p d c q at hs z ≡ Ok rest) (sym part_is) b.then)
 
         off_taking : (a v : Term) → OffGoing means world n w (taking v a)

@@ -1,6 +1,8 @@
 -- An expression that fits has a term of its value on the way of a quiet walk.
 use Rattle.std.proofs.Common.{◌≡◌, ℕ, pos, Bool, true, false, not, cond, ◌&&◌, List, [], ◌∷◌, ◌++◌, Some, None, refl, sym, ◌∙◌, ap, ap₂, subst, le_refl}
 use Rattle.std.specs.Prelude.{Ok, Err}
+use Rattle.std.proofs.lemmas.Bool.{and_parts}
+use Rattle.std.proofs.lemmas.Option.{same_Some}
 use Rattle.vx_frac.specs.Fractions.{Fraction, is_positive, whole, over, product, lowest}
 use Rattle.vx_frac.proofs.Lowest.{lowest-lowest}
 use Rattle.vx_frac.proofs.Whole.{lowest_whole}
@@ -38,7 +40,7 @@ use Rattle.vx_elements.proofs.Values.{ref_value_is, perm_value_is, operated_is}
 use Rattle.vx_sound.proofs.World.{at_field, World}
 use Rattle.vx_sound.proofs.Stands.{OwnStands, owned_old, owned_back, StoreStands, HeapStands, TermsStand, found_stands, term_later, heap_later}
 use Rattle.vx_sound.proofs.Candidates.{InstanceTerms}
-use Rattle.vx_sound_preds.proofs.Fitting.{undo, not_failed, guarded, some_is}
+use Rattle.vx_sound_preds.proofs.Fitting.{undo, not_failed, guarded}
 use Rattle.vx_sound_preds.proofs.Framing.{ok_same}
 use Rattle.vx_live.proofs.Speaks.{Speaks, AllSpeak}
 use Rattle.vx_live.specs.Quiet.{Still}
@@ -92,7 +94,7 @@ on_false at false x y v z e = e
 on_false at true x y v z e = cc
 
 pub amount_outcome : (v : Value) (a q : Fraction) → v ≡ PermValue a → amount_of v ≡ Some q → a ≡ q
-amount_outcome v a q e f = some_is a q (sym (ap amount_of e) ∙ f)
+amount_outcome v a q e f = same_Some a q (sym (ap amount_of e) ∙ f)
 
 append_nil : {A : Type 0} (xs : List A) → xs ≡ xs ++ []
 append_nil [] = refl
@@ -155,10 +157,6 @@ module _ (means : Meaning) (world : World) (n : ℕ) (w : Walk means n) where
       is : fit world.program d c e ≡ Ok worth
       typed : type_of worth ≡ t
 
-    both_total : (a b : Bool) → (a && b) ≡ true → (a ≡ true) × (b ≡ true)
-    both_total true b e = (refl, e)
-    both_total false b e = cc
-
     next : {A B : Type 0} (f : A → Checked B) {x : Checked A} (a : A) → x ≡ Ok a → (x >>= f) ≡ f a
     next f a e = ap (λ y. y >>= f) e
 
@@ -175,7 +173,7 @@ module _ (means : Meaning) (world : World) (n : ℕ) (w : Walk means n) where
         let b = bool_is r.worth r.typed in
         record { worth = BoolValue (not b.0); is = next (λ v. or_fail at (negated v)) r.worth r.is ∙ ap (λ v. or_fail at (negated v)) b.1; typed = refl }
     total (operates {at = at} {op = op} {a = a} {b = b} {t = t} o ta tb) k m i s c st =
-        let y = both_total (is_total a) (is_total b) k in
+        let y = and_parts (is_total a) (is_total b) k in
         let r = total ta y.0 m i s c st in
         let q = total tb y.1 m i s c st in
         let z = operated_is i op r.worth q.worth t o r.typed q.typed in
@@ -186,7 +184,7 @@ module _ (means : Meaning) (world : World) (n : ℕ) (w : Walk means n) where
         record { worth = PermValue (product (whole (pos z)) a.0); is = next (λ w. or_fail at (operated Multiply (IntValue (pos z)) w)) q.worth q.is ∙ ap (λ w. or_fail at (operated Multiply (IntValue (pos z)) w)) a.1; typed = refl }
     total (divides ta tb) k m i s c st = cc
     total (connects {at = at} {c = o} {a = a} {b = b} ta tb) k m i s c st =
-        let y = both_total (is_total a) (is_total b) k in
+        let y = and_parts (is_total a) (is_total b) k in
         let r = total ta y.0 m i s c st in
         let q = total tb y.1 m i s c st in
         let x = bool_is r.worth r.typed in
@@ -201,8 +199,8 @@ module _ (means : Meaning) (world : World) (n : ℕ) (w : Walk means n) where
         both true z without x e = e
         both false z without x e = refl
     total (chooses {at = at} {c = o} {a = a} {b = b} {t = t} to ta tb) k m i s c st =
-        let y = both_total (is_total o && is_total a) (is_total b) (regroup (is_total o) (is_total a) (is_total b) k) in
-        let x = both_total (is_total o) (is_total a) y.0 in
+        let y = and_parts (is_total o && is_total a) (is_total b) (regroup (is_total o) (is_total a) (is_total b) k) in
+        let x = and_parts (is_total o) (is_total a) y.0 in
         let f = total to x.0 m i s c st in
         let r = total ta x.1 m i s c st in
         let q = total tb y.1 m i s c st in
@@ -389,7 +387,7 @@ module _ (means : Meaning) (world : World) (n : ℕ) (w : Walk means n) where
             let off_middle = λ (t : Term) (j : Interpretation) (u : Term) (s2 : State) (f : Off means world n w j s2). off_eval b (last t u) (off_last t u) j s2 f in
             either_told i (is_total a && is_total b) _ _
             (λ all.
-            let totals = both_total (is_total a) (is_total b) all in
+            let totals = and_parts (is_total a) (is_total b) all in
             let q = total ta totals.0 n i s c here.quietly.stands.store in
             let r = total tb totals.1 n i s c here.quietly.stands.store in
             step_told means world n w _ (eval_told to k.0 (λ t s1. Step (eval p o a s1 (middle t))) here x.is (λ j t s1 ext on1 g is t1.

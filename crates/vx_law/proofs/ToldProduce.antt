@@ -1,6 +1,7 @@
 -- An assertion that is given leads on along the way of a quiet walk, with a snapshot that is worth its asking tree.
 use Rattle.std.proofs.Common.{◌≡◌, ℕ, Bool, true, false, cond, ◌||◌, List, [], ◌∷◌, ◌++◌, Option, Some, None, refl, sym, ◌∙◌, ap, subst, le_refl, true≢false}
 use Rattle.std.specs.Prelude.{Ok, option_and_then}
+use Rattle.std.proofs.lemmas.Option.{same_Some}
 use Rattle.vx_frac.specs.Fractions.{Fraction, none, product}
 use Rattle.vx_ast.specs.declared.Place.{Place}
 use Rattle.vx_ast.specs.declared.ValueType.TheVariants.{Perm}
@@ -41,7 +42,7 @@ use Rattle.vx_sound.proofs.Fuel.{one_value, all_one_value}
 use Rattle.vx_sound_preds.specs.Asking.{asking_entries, IsAsking}
 use Rattle.vx_sound_preds.specs.Bodies.{GoodBodies}
 use Rattle.vx_sound_preds.proofs.Asked.{held_entries, asking_positive}
-use Rattle.vx_sound_preds.proofs.Fitting.{Before, undo, step, some_is}
+use Rattle.vx_sound_preds.proofs.Fitting.{Before, undo, step}
 use Rattle.vx_sound_preds.proofs.Flats.{After, came}
 use Rattle.vx_sound_preds.proofs.Framing.{FieldParts, InstanceParts, field_parts, instance_parts}
 use Rattle.vx_sound_preds.proofs.Adding.{added, added_append}
@@ -164,7 +165,7 @@ module _ (means : Meaning) (p : Program) (good : GoodBodies p) (Held : Name → 
         en' = follows_value p d worths k c e x.it (λ v. cond (is_true v) (Some []) None) es x.is en
 
         outcome : (b : Bool) → cond b (Some []) None ≡ Some es → (b ≡ true) × (es ≡ [])
-        outcome true e = (refl, sym (some_is [] es e))
+        outcome true e = (refl, sym (same_Some [] es e))
         outcome false e = cc
 
         holds_true : is_true x.it ≡ true
@@ -264,7 +265,7 @@ module _ (means : Meaning) (p : Program) (good : GoodBodies p) (Held : Name → 
         one_entry : (r : ℕ) → y.receiver ≡ RefValue r → (run.At (at_field r f), y.amount) ∷ [] ≡ es
         one_entry r receiver =
             let on = λ (v : Value). option_and_then (location_entry f v) (plain.value p no_applications c share) in
-            some_is ((run.At (at_field r f), y.amount) ∷ []) es
+            same_Some ((run.At (at_field r f), y.amount) ∷ []) es
             (sym (step (location_entry f (RefValue r)) (PermValue y.amount) (share_is p d worths c share y.worth y.amount pl.1 y.worth_is y.amount_is)) ∙ sym (ap on receiver) ∙ follows_value p d worths k c e y.receiver on es y.receiver_is en)
 
     instance_told : (q : Fraction) (at : Place) (x : Name) (xs : Exprs) (share : Expr) → Produced q (syntax.Instance at x xs share)
@@ -300,7 +301,7 @@ module _ (means : Meaning) (p : Program) (good : GoodBodies p) (Held : Name → 
         off_amount ts j s1 z = amount_left (w.Tells j) p o (left j) at share s1 scale (last ts) (off_quiet means world n w z) (λ a s2 st. off_put a ts j s2 (off_still means world n w z st))
 
         entry : (run.Folded record { predicate = x; arguments = y.arguments }, y.amount) ∷ [] ≡ es
-        entry = some_is ((run.Folded target, y.amount) ∷ []) es
+        entry = same_Some ((run.Folded target, y.amount) ∷ []) es
             (sym (step (instance_entry x y.arguments) (PermValue y.amount) (share_is p d worths c share y.worth y.amount pl.1 y.worth_is y.amount_is)) ∙ follow_values p d worths k c xs y.arguments (λ vs. option_and_then (instance_entry x vs) (plain.value p no_applications c share)) es y.arguments_are en)
 
         put_there : (j : Interpretation) (s3 : State) (ts : List Term) (a : Term) → InstanceTerms means world n j x ts y.arguments → Here scope j s3 c → Good means n j a RealSort → Same (as_fraction (value j a)) (product q y.amount) → Le none (as_fraction (value j a)) →
@@ -339,7 +340,7 @@ module _ (means : Meaning) (p : Program) (good : GoodBodies p) (Held : Name → 
         ys = came (asking_entries p (applications p k) c b) (λ ys. Some (xs.it ++ ys)) es xs.then
 
         joined : xs.it ++ ys.it ≡ es
-        joined = some_is (xs.it ++ ys.it) es ys.then
+        joined = same_Some (xs.it ++ ys.it) es ys.then
 
         after_a : Going
         after_a s1 = produce p o b scale (Some (second t)) s1 on
@@ -388,7 +389,7 @@ module _ (means : Meaning) (p : Program) (good : GoodBodies p) (Held : Name → 
         (worth_later means p n (also ext ext2) c a tree t (worth_yes b.0 wo.0 z (decided c e x.it b.0 wo.0 x.is b.1 wo.1) _ _ wo.2)) (scale_later means world (le_refl n) (also ext ext2) sc) on2 (λ j3 s3 ext3 on3. h j3 s3 (also ext (also ext2 ext3)) on3) off)
         (λ z j2 s2 ext2 on2.
         let wn = worth_no b.0 wo.0 z (decided c e x.it b.0 wo.0 x.is b.1 wo.1) _ _ wo.2 in
-        subst (λ hs. Follows means world n w scope i (run.with_holdings (added q hs c.holdings) c) on) (sym (some_is [] es (on_no b.0 z (asking_entries p (applications p k) c a) (Some []) es listed))) h j2 (with_unit (Some t) s2) (also ext ext2) (unit_told t tree on2 (snap_later means p n (also ext ext2) wn.0) wn.1))
+        subst (λ hs. Follows means world n w scope i (run.with_holdings (added q hs c.holdings) c) on) (sym (same_Some [] es (on_no b.0 z (asking_entries p (applications p k) c a) (Some []) es listed))) h j2 (with_unit (Some t) s2) (also ext ext2) (unit_told t tree on2 (snap_later means p n (also ext ext2) wn.0) wn.1))
         off_left off_right)
         (λ j v s1 f. fork_left (w.Tells j) s1 v left_on right_on (λ s2 st. off_left j s2 (off_still means world n w f st)) (λ s2 st. off_right j s2 (off_still means world n w f st))))
       where

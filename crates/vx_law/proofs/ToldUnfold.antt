@@ -1,6 +1,8 @@
 -- An instance that is exchanged for its body leads on along the way of a quiet walk.
-use Rattle.std.proofs.Common.{◌≡◌, ℕ, zero, suc, Bool, true, false, ◌&&◌, List, [], ◌∷◌, ◌++◌, Option, Some, None, refl, sym, ◌∙◌, ap, subst, le_refl}
+use Rattle.std.proofs.Common.{◌≡◌, ℕ, zero, suc, true, ◌&&◌, List, [], ◌∷◌, ◌++◌, Option, Some, None, refl, sym, ◌∙◌, ap, subst, le_refl}
 use Rattle.std.specs.Prelude.{Ok, Err}
+use Rattle.std.proofs.lemmas.Option.{none-some, same_Some}
+use Rattle.std.proofs.lemmas.Bool.{and_parts}
 use Rattle.vx_frac.specs.Fractions.{Fraction, is_positive, at_most}
 use Rattle.vx_ast.specs.declared.Place.{Place}
 use Rattle.vx_ast.specs.Syntax.{Name, Program, Predicate, predicate_named, Assertion}
@@ -32,7 +34,7 @@ use Rattle.vx_sound.proofs.Arguments.{bound}
 use Rattle.vx_sound.proofs.Giving.{ScaleStands}
 use Rattle.vx_sound_preds.specs.Asking.{asking_entries, IsAsking}
 use Rattle.vx_sound_preds.specs.Bodies.{Rigid, IsPlainBody, GoodBodies}
-use Rattle.vx_sound_preds.proofs.Fitting.{undo, some_is}
+use Rattle.vx_sound_preds.proofs.Fitting.{undo}
 use Rattle.vx_sound_preds.proofs.Looks.{Sees}
 use Rattle.vx_sound_preds.proofs.Framing.{ok_same, entries_seen, tree_seen}
 use Rattle.vx_sound_preds.proofs.Adding.{added}
@@ -50,20 +52,13 @@ use Rattle.vx_law.proofs.ToldChunks.{TakenOf, take_told}
 use Rattle.vx_law.proofs.Values.{FitsWorth, added_is}
 use Rattle.vx_law.proofs.Worth.{Worth, written_worth}
 
-none_some : {A : Type 0} (a : A) → None ≡ Some a → ⊥
-none_some a e = cc
-
 append_nil : {A : Type 0} (xs : List A) → xs ≡ xs ++ []
 append_nil [] = refl
 append_nil (x ∷ xs) = ap (λ ys. x ∷ ys) (append_nil xs)
 
 some_of : {A : Type 0} (x : Checked A) (a : A) → to_option x ≡ Some a → x ≡ Ok a
-some_of (Ok b) a e = ap Ok (some_is b a e)
+some_of (Ok b) a e = ap Ok (same_Some b a e)
 some_of (Err at) a e = cc
-
-both_true : (a b : Bool) → (a && b) ≡ true → (a ≡ true) × (b ≡ true)
-both_true true b e = (refl, e)
-both_true false b e = cc
 
 module _ (means : Meaning) (p : Program) (good : GoodBodies p) (Held : Name → Type 0) (no_perm : (x : Name) (d : Predicate) → predicate_named p x ≡ Some d → HaveNoPerm d.parameters) (n : ℕ) (w : Walk means n) where
   abbrev pub world : World
@@ -104,7 +99,7 @@ module _ (means : Meaning) (p : Program) (good : GoodBodies p) (Held : Name → 
       of_predicate (Some b) = of_body b b.body
 
       by_body : (o : Option Assertion) → pd.body ≡ o → of_body pd pd.body ≡ Some u → Exchanged d k q c u pd
-      by_body None is e = absurd (none_some u (sym (ap (of_body pd) is) ∙ e))
+      by_body None is e = absurd (none-some u (sym (ap (of_body pd) is) ∙ e))
       by_body (Some a) is e =
           let x = undo (add p d q a (start c k pd q)) (λ v. Ok (run.with_store c.store v)) u (some_of _ u (sym (ap (of_body pd) is) ∙ e)) in
           record { body = a; body_is = is; given = x.it; adds = x.is; u_is = ok_same (run.with_store c.store x.it) u x.then }
@@ -144,7 +139,7 @@ module _ (means : Meaning) (p : Program) (good : GoodBodies p) (Held : Name → 
         plain = good.plain x pd steps.body keys.named steps.body_is
 
         enough : Le q (run.amount c.holdings (run.Folded record { predicate = x; arguments = vs }))
-        enough = record { holds = (both_true (is_positive q) (at_most q (run.amount c.holdings (run.Folded k))) has).1 }
+        enough = record { holds = (and_parts (is_positive q) (at_most q (run.amount c.holdings (run.Folded k))) has).1 }
 
         grounded : IsGrounded p c.heap record { predicate = x; arguments = vs }
         grounded = here.quietly.stands.holds.grounded k (positive-le pos enough)
@@ -174,7 +169,7 @@ module _ (means : Meaning) (p : Program) (good : GoodBodies p) (Held : Name → 
         worth t g written (z, (m, f), is) = (z, by_fuel m f)
           where
             by_fuel : (m : ℕ) → tree_by p m c.heap record { predicate = x; arguments = vs } ≡ Some z → Worth means p n i (start c record { predicate = x; arguments = vs } keys.predicate q) steps.body z t
-            by_fuel zero f = absurd (none_some z f)
+            by_fuel zero f = absurd (none-some z f)
             by_fuel (suc m) f =
                 written_worth means p n i here.quietly.stands.standard m inner steps.body z t
                 (same_tree p (applications p m) (tree_by p m c.heap) inner steps.body plain ∙ tree_seen p Rigid (bare (bind pd.parameters vs) c.heap) inner seen (tree_by p m c.heap) steps.body plain ∙ sym (tree_of_body p c.heap k pd steps.body m keys.named steps.body_is) ∙ f)

@@ -1,6 +1,7 @@
 -- An assertion whose entries are grounded has an asking tree.
 use Rattle.std.proofs.Common.{◌≡◌, ℕ, ◌+◌, Bool, true, false, cond, List, [], ◌∷◌, ◌++◌, Some, None, refl, sym, ◌∙◌, subst, arith}
 use Rattle.std.specs.Prelude.{option_and_then}
+use Rattle.std.proofs.lemmas.Option.{same_Some}
 use Rattle.vx_ast.specs.declared.Place.{Place}
 use Rattle.vx_ast.specs.Syntax.{Name, Program, Expr, Exprs, Assertion, Pure, Points, Both, Implied, Chosen}
 use Rattle.vx_ast.specs.Syntax as syntax
@@ -13,7 +14,7 @@ use Rattle.vx_sound.specs.Snapshots.{leaf, truth_leaf, location_leaf, tree_by}
 use Rattle.vx_sound.proofs.Fuel.{values_more, applications_later}
 use Rattle.vx_sound_preds.specs.Asking.{asking_tree, asking_entries, IsAskingTreeOf}
 use Rattle.vx_sound_preds.proofs.Asked.{both_trees, condition_tree}
-use Rattle.vx_sound_preds.proofs.Fitting.{step, some_is}
+use Rattle.vx_sound_preds.proofs.Fitting.{step}
 use Rattle.vx_sound_preds.proofs.Flats.{came, tree_later}
 use Rattle.vx_sound_preds.proofs.Folds.{flat_has_tree}
 use Rattle.vx_sound_preds.proofs.Adding.{AreEntries}
@@ -53,7 +54,7 @@ module _ (p : Program) (s : State) where
   location_there f (PermValue r) w es e = nothing_some es e
 
   grounded_there : (i : Name) (vs : List Value) (w : Value) (es : Holdings) → instance_entry i vs w ≡ Some es → AreEntries p s.heap es → IsGrounded p s.heap record { predicate = i; arguments = vs }
-  grounded_there i vs (PermValue a) es e k = (subst (AreEntries p s.heap) (sym (some_is ((Folded record { predicate = i; arguments = vs }, a) ∷ []) es e)) k).0
+  grounded_there i vs (PermValue a) es e k = (subst (AreEntries p s.heap) (sym (same_Some ((Folded record { predicate = i; arguments = vs }, a) ∷ []) es e)) k).0
   grounded_there i vs (IntValue a) es e k = nothing_some es e
   grounded_there i vs (BoolValue a) es e k = nothing_some es e
   grounded_there i vs (RefValue a) es e k = nothing_some es e
@@ -77,7 +78,7 @@ module _ (p : Program) (s : State) where
     has_tree (Both a b) es eq k =
         let x = came (asking_entries p (applications p n) s a) (λ xs. option_and_then (λ ys. Some (xs ++ ys)) (asking_entries p (applications p n) s b)) es eq in
         let y = came (asking_entries p (applications p n) s b) (λ ys. Some (x.it ++ ys)) es x.then in
-        let all = subst (AreEntries p s.heap) (sym (some_is (x.it ++ y.it) es y.then)) k in
+        let all = subst (AreEntries p s.heap) (sym (same_Some (x.it ++ y.it) es y.then)) k in
         let one = has_tree a x.it x.is (entries_left p s.heap x.it y.it all) in
         let two = has_tree b y.it y.is (entries_right p s.heap x.it y.it all) in
         record { tree = Pair one.tree two.tree; is = both_trees p s a b one.tree two.tree one.is two.is }

@@ -1,6 +1,7 @@
 -- What fits has its value, what is applied by some fuel; so where an assertion names something, what is added by it is that.
 use Rattle.std.proofs.Common.{◌≡◌, ℕ, ◌≤◌, Bool, true, false, cond, List, [], ◌++◌, Option, Some, None, refl, sym, ◌∙◌, ap, subst, arith}
 use Rattle.std.specs.Prelude.{Ok, option_and_then}
+use Rattle.std.proofs.lemmas.Option.{same_Some}
 use Rattle.vx_frac.specs.Fractions.{Fraction, product}
 use Rattle.vx_ast.specs.declared.Place.{Place}
 use Rattle.vx_ast.specs.Syntax.{Program, place_of, Expr, Exprs, Assertion, Pure, Points, Both, Implied, Chosen}
@@ -17,7 +18,7 @@ use Rattle.vx_sound.proofs.Fuel.{one_value, all_one_value}
 use Rattle.vx_sound.proofs.Stripped.{fit_worth, all_fit_worth}
 use Rattle.vx_sound_preds.specs.Asking.{asking_entries, IsAskingAmount, IsAsking}
 use Rattle.vx_sound_preds.proofs.Asked.{above, held_entries}
-use Rattle.vx_sound_preds.proofs.Fitting.{undo, step, some_is}
+use Rattle.vx_sound_preds.proofs.Fitting.{undo, step}
 use Rattle.vx_sound_preds.proofs.Flats.{came}
 use Rattle.vx_sound_preds.proofs.Framing.{field_parts, instance_parts, amount_same, ok_same}
 use Rattle.vx_sound_preds.proofs.Adding.{added, added_append, location_entries, instance_entries}
@@ -60,7 +61,7 @@ no_entries : (v : Value) (es : Holdings) → cond (is_true v) (Some []) None ≡
 no_entries v es e = go (is_true v) e
   where
     go : (b : Bool) → cond b (Some []) None ≡ Some es → es ≡ []
-    go true e = sym (some_is [] es e)
+    go true e = sym (same_Some [] es e)
     go false e = cc
 
 module _ (p : Program) (d : Deeper) (fits : FitsWorth p d) where
@@ -112,7 +113,7 @@ module _ (p : Program) (d : Deeper) (fits : FitsWorth p d) where
       let y = came (asking_entries p (applications p n) s a) (λ xs. option_and_then (λ ys. Some (xs ++ ys)) (asking_entries p (applications p n) s b)) es en in
       let z = came (asking_entries p (applications p n) s b) (λ ys. Some (y.it ++ ys)) es y.then in
       let middle : State = with_holdings (added q y.it s.holdings) s in
-      let whole : added q z.it (added q y.it s.holdings) ≡ added q es s.holdings = sym (added_append q y.it z.it s.holdings) ∙ ap (λ (zs : Holdings). added q zs s.holdings) (some_is (y.it ++ z.it) es z.then) in
+      let whole : added q z.it (added q y.it s.holdings) ≡ added q es s.holdings = sym (added_append q y.it z.it s.holdings) ∙ ap (λ (zs : Holdings). added q zs s.holdings) (same_Some (y.it ++ z.it) es z.then) in
       let first = added_is q pos a s x.it n y.it k.0 y.is x.is in
       let second = added_is q pos b middle u n z.it k.1 (held_entries p n (added q y.it s.holdings) s b k.1 ∙ z.is) (subst (λ (t : State). add p d q b t ≡ Ok u) first x.then) in
       second ∙ ap (λ (hs : Holdings). with_holdings hs s) whole
@@ -120,7 +121,7 @@ module _ (p : Program) (d : Deeper) (fits : FitsWorth p d) where
       let x = undo (fit p d s c) (λ v. choose (place_of c) v (add p d q a s) (Ok s)) u eq in
       side {R = u ≡ with_holdings (added q es s.holdings) s} (place_of c) x.it (add p d q a s) (Ok s) (asking_entries p (applications p n) s a) (Some []) u es
       (λ e g. added_is q pos a s u n es k.1 g e)
-      (λ e g. subst (λ (es : Holdings). u ≡ with_holdings (added q es s.holdings) s) (some_is [] es g) (sym (ok_same s u e)))
+      (λ e g. subst (λ (es : Holdings). u ≡ with_holdings (added q es s.holdings) s) (same_Some [] es g) (sym (ok_same s u e)))
       x.then (follows_value n s c x.it (λ v. plain.choose v (asking_entries p (applications p n) s a) (Some [])) es x.is en)
   added_is q pos (Chosen c a b) s u n es k en eq =
       let x = undo (fit p d s c) (λ v. choose (place_of c) v (add p d q a s) (add p d q b s)) u eq in

@@ -1,5 +1,6 @@
 -- The law at work: a method that relies on a function's postcondition, and the function itself.
 use Rattle.std.proofs.Common.{◌≡◌, ◌⊎◌, inl, inr, cond, not, ℕ, zero, suc, Bool, true, false, List, [], ◌∷◌, Option, Some, None, slice_get, refl, sym, subst, true≢false}
+use Rattle.std.proofs.lemmas.Option.{same_Some}
 use Rattle.vx_frac.specs.Fractions.{lowest}
 use Rattle.vx_ast.specs.declared.ValueType.TheVariants.{Int}
 use Rattle.vx_ast.specs.Syntax.{Name, same_name, result_name, Member, Kind, IsFunction, IsMethod, Predicate, Function, Method, Equal, Add, member_named, predicate_in, function_in, method_in, predicate_named, function_named, method_named, joined}
@@ -18,9 +19,6 @@ use Rattle.vx_sound.specs.Law.{Passes}
 use Rattle.vx_law.specs.Examples.{next, adder, relies, counts}
 use Rattle.vx_law.proofs.Members.{members_sound}
 
-some_is : {A : Type 0} (a b : A) → Some a ≡ Some b → a ≡ b
-some_is a b e = cc
-
 adder_passes : Passes counts next (IsFunction adder) []
 unfolding lowest rules
 adder_passes = (refl, tt)
@@ -38,8 +36,8 @@ one_step y k e = go (same_name y next) refl (same_name y m) refl e
   where
     go : (a : Bool) → same_name y next ≡ a → (b : Bool) → same_name y m ≡ b → elim a as (λ c. Option Kind) [ true ↦ Some (IsFunction adder) | false ↦ elim b as (λ c. Option Kind) [ true ↦ Some (IsMethod relies) | false ↦ None ] ] ≡ Some k →
         ((y ≡ next) × (k ≡ IsFunction adder)) ⊎ ((y ≡ m) × (k ≡ IsMethod relies))
-    go true n b l e = inl (same_name_is y next n, some_is k (IsFunction adder) (sym e))
-    go false n true l e = inr (same_name_is y m l, some_is k (IsMethod relies) (sym e))
+    go true n b l e = inl (same_name_is y next n, same_Some k (IsFunction adder) (sym e))
+    go false n true l e = inr (same_name_is y m l, same_Some k (IsMethod relies) (sym e))
     go false n false l e = cc
 
 -- what a name can stand for
@@ -58,14 +56,14 @@ no_predicate : (y : Name) (d : Predicate) → predicate_named counts y ≡ Some 
 no_predicate = by_name (λ o. (d : Predicate) → predicate_in o ≡ Some d → ⊥) nothing nothing nothing
 
 each_function : (Q : Function → Type 0) → Q adder → (y : Name) (g : Function) → function_named counts y ≡ Some g → Q g
-each_function Q q = by_name (λ o. (g : Function) → function_in o ≡ Some g → Q g) (λ g e. subst Q (some_is adder g e) q) (λ g e. nothing g e) (λ g e. nothing g e)
+each_function Q q = by_name (λ o. (g : Function) → function_in o ≡ Some g → Q g) (λ g e. subst Q (same_Some adder g e) q) (λ g e. nothing g e) (λ g e. nothing g e)
 
 each_method : (Q : Method → Type 0) → Q relies → (y : Name) (n : Method) → method_named counts y ≡ Some n → Q n
-each_method Q q = by_name (λ o. (n : Method) → method_in o ≡ Some n → Q n) (λ n e. nothing n e) (λ n e. subst Q (some_is relies n e) q) (λ n e. nothing n e)
+each_method Q q = by_name (λ o. (n : Method) → method_in o ≡ Some n → Q n) (λ n e. nothing n e) (λ n e. subst Q (same_Some relies n e) q) (λ n e. nothing n e)
 
 names : (n : ℕ) (k : Member) → slice_get counts n ≡ Some k → member_named counts k.name ≡ Some k.kind
-names zero k e = subst (λ (k : Member). member_named counts k.name ≡ Some k.kind) (some_is (record { name = next; kind = IsFunction adder }) k e) refl
-names (suc zero) k e = subst (λ (k : Member). member_named counts k.name ≡ Some k.kind) (some_is (record { name = m; kind = IsMethod relies }) k e) refl
+names zero k e = subst (λ (k : Member). member_named counts k.name ≡ Some k.kind) (same_Some (record { name = next; kind = IsFunction adder }) k e) refl
+names (suc zero) k e = subst (λ (k : Member). member_named counts k.name ≡ Some k.kind) (same_Some (record { name = m; kind = IsMethod relies }) k e) refl
 names (suc (suc n)) k e = cc
 
 adder_typed : IsTypedFunction counts adder

@@ -1,5 +1,6 @@
 -- The law at work where a function reads what is within an instance, and another one applies it.
 use Rattle.std.proofs.Common.{◌≡◌, inl, inr, List, [], ◌∷◌, Some, refl, sym, ◌∙◌, ap, subst}
+use Rattle.std.proofs.lemmas.Option.{same_Some}
 use Rattle.vx_frac.specs.Fractions.{lowest}
 use Rattle.vx_ast.specs.Syntax.{Name, Kind, IsPredicate, IsFunction, member_named}
 use Rattle.vx_ast.specs.Apart.{Stands}
@@ -47,12 +48,9 @@ leads_to_known : (y : Name) → InClosure boxes twice y → Known y
 leads_to_known y itself = inl refl
 leads_to_known y (further {y = z} k h) = known_of y (mentions boxes z) (mentions_known z (leads_to_known z k)) h
 
-some_is : {A : Type 0} (a b : A) → Some a ≡ Some b → a ≡ b
-some_is a b e = cc
-
 one_passes : (z : Name) (k : Kind) → member_named boxes z ≡ Some k → Passes boxes z k [] → (y : Name) (l : Kind) → y ≡ z → member_named boxes y ≡ Some l → Passes boxes y l []
 one_passes z k named pass y l e is =
-    subst (λ (y : Name). Passes boxes y l []) (sym e) (subst (λ (l : Kind). Passes boxes z l []) (some_is k l (sym named ∙ ap (λ (y : Name). member_named boxes y) (sym e) ∙ is)) pass)
+    subst (λ (y : Name). Passes boxes y l []) (sym e) (subst (λ (l : Kind). Passes boxes z l []) (same_Some k l (sym named ∙ ap (λ (y : Name). member_named boxes y) (sym e) ∙ is)) pass)
 
 closed : (y : Name) (l : Kind) → InClosure boxes twice y → member_named boxes y ≡ Some l → Passes boxes y l []
 closed y l leads is = go (leads_to_known y leads)

@@ -2,6 +2,7 @@
 use Rattle.std.proofs.Common.{◌≡◌, inl, ℕ, zero, suc, ◌-◌, le-leb, lt-ltb, nltb→le, ℤ, pos, negsuc, Bool, true, false, not, cond, [], ◌∷◌, Option, Some, None, slice_get, refl, sym, ◌∙◌, ap, subst, arith, true≢false}
 use Rattle.std.specs.Prelude.{ltb, ◌-ℤ◌, int_le, int_lt}
 use Rattle.std.proofs.lemmas.Float.{T_from_true}
+use Rattle.std.proofs.lemmas.Option.{same_Some}
 use Rattle.vx_frac.specs.Fractions.{lowest}
 use Rattle.vx_ast.specs.declared.ValueType.TheVariants.{Int}
 use Rattle.vx_ast.specs.Syntax.{Name, same_name, Member, Kind, IsFunction, Predicate, Function, Method, LessEqual, Subtract, member_named, predicate_in, function_in, method_in, predicate_named, function_named, method_named, joined}
@@ -54,9 +55,6 @@ by_name Q at_zero at_none y = go (same_name y down)
     go true = at_zero
     go false = at_none
 
-some_is : {A : Type 0} (a b : A) → Some a ≡ Some b → a ≡ b
-some_is a b e = cc
-
 nothing : {A R : Type 0} (a : A) → (let o : Option A = None in o) ≡ Some a → R
 nothing a e = cc
 
@@ -67,10 +65,10 @@ no_method : (y : Name) (m : Method) → method_named descends y ≡ Some m → �
 no_method = by_name (λ o. (m : Method) → method_in o ≡ Some m → ⊥) nothing nothing
 
 each_function : (Q : Function → Type 0) → Q descender → (y : Name) (g : Function) → function_named descends y ≡ Some g → Q g
-each_function Q q = by_name (λ o. (g : Function) → function_in o ≡ Some g → Q g) (λ g e. subst Q (some_is descender g e) q) (λ g e. nothing g e)
+each_function Q q = by_name (λ o. (g : Function) → function_in o ≡ Some g → Q g) (λ g e. subst Q (same_Some descender g e) q) (λ g e. nothing g e)
 
 names : (n : ℕ) (k : Member) → slice_get descends n ≡ Some k → member_named descends k.name ≡ Some k.kind
-names zero k e = subst (λ (k : Member). member_named descends k.name ≡ Some k.kind) (some_is (record { name = down; kind = IsFunction descender }) k e) refl
+names zero k e = subst (λ (k : Member). member_named descends k.name ≡ Some k.kind) (same_Some (record { name = down; kind = IsFunction descender }) k e) refl
 names (suc n) k e = cc
 
 descender_typed : IsTypedFunction descends descender
@@ -106,7 +104,7 @@ one_member : (y : Name) (l : Kind) → member_named descends y ≡ Some l → (y
 one_member y l e = go (same_name y down) refl e
   where
     go : (a : Bool) → same_name y down ≡ a → elim a as (λ c. Option Kind) [ true ↦ Some (IsFunction descender) | false ↦ None ] ≡ Some l → (y ≡ down) × (l ≡ IsFunction descender)
-    go true n e = (same_name_is y down n, some_is l (IsFunction descender) (sym e))
+    go true n e = (same_name_is y down n, same_Some l (IsFunction descender) (sym e))
     go false n e = cc
 
 pub descender_never_fails : Fails descends down (IsFunction descender) → ⊥

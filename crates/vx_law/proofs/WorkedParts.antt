@@ -1,6 +1,7 @@
 -- The law at work for functions whose preconditions apply a function.
 use Rattle.std.proofs.Common.{◌≡◌, inl, inr, ℕ, zero, suc, ◌<◌, Bool, true, false, not, List, [], ◌∷◌, Option, Some, None, slice_get, refl, sym, ◌∙◌, ap, subst, arith, true≢false, pos}
 use Rattle.std.specs.Ordering.{int_eq}
+use Rattle.std.proofs.lemmas.Option.{same_Some}
 use Rattle.vx_frac.specs.Fractions.{lowest, over}
 use Rattle.vx_ast.specs.declared.ValueType.TheVariants.{Int}
 use Rattle.vx_ast.specs.Syntax.{Name, same_name, Member, Kind, IsField, IsFunction, Predicate, Function, Method, Equal, member_named, predicate_in, function_in, method_in, predicate_named, function_named, method_named, joined}
@@ -22,9 +23,6 @@ use Rattle.vx_sound_funcs.specs.Examples.{g}
 use Rattle.vx_sound_funcs.specs.AskingExamples.{kind, kinds, part, parts, tagged}
 use Rattle.vx_law.specs.Examples.{tags, payload, payloads}
 use Rattle.vx_law.proofs.Members.{members_sound}
-
-some_is : {A : Type 0} (a b : A) → Some a ≡ Some b → a ≡ b
-some_is a b e = cc
 
 nothing : {A R : Type 0} (a : A) → (let o : Option A = None in o) ≡ Some a → R
 nothing a e = cc
@@ -61,13 +59,13 @@ module _ (name : Name) (function : Function) (it_is : member_named (tags name fu
 
   each_function : (Q : Name → Function → Type 0) → Q kind kinds → Q name function → (y : Name) (d : Function) → function_named (tags name function) y ≡ Some d → Q y d
   each_function Q q r =
-      by_name (λ y o. (d : Function) → function_in o ≡ Some d → Q y d) (λ y d e. nothing d e) (λ d e. subst (Q kind) (some_is kinds d e) q) (λ d e. subst (Q name) (some_is function d e) r) (λ y d e. nothing d e)
+      by_name (λ y o. (d : Function) → function_in o ≡ Some d → Q y d) (λ y d e. nothing d e) (λ d e. subst (Q kind) (same_Some kinds d e) q) (λ d e. subst (Q name) (same_Some function d e) r) (λ y d e. nothing d e)
 
   names : (n : ℕ) (k : Member) → slice_get (tags name function) n ≡ Some k → member_named (tags name function) k.name ≡ Some k.kind
-  names zero k e = subst (λ (k : Member). member_named (tags name function) k.name ≡ Some k.kind) (some_is (record { name = f; kind = IsField Int }) k e) refl
-  names (suc zero) k e = subst (λ (k : Member). member_named (tags name function) k.name ≡ Some k.kind) (some_is (record { name = g; kind = IsField Int }) k e) refl
-  names (suc (suc zero)) k e = subst (λ (k : Member). member_named (tags name function) k.name ≡ Some k.kind) (some_is (record { name = kind; kind = IsFunction kinds }) k e) refl
-  names (suc (suc (suc zero))) k e = subst (λ (k : Member). member_named (tags name function) k.name ≡ Some k.kind) (some_is (record { name = name; kind = IsFunction function }) k e) it_is
+  names zero k e = subst (λ (k : Member). member_named (tags name function) k.name ≡ Some k.kind) (same_Some (record { name = f; kind = IsField Int }) k e) refl
+  names (suc zero) k e = subst (λ (k : Member). member_named (tags name function) k.name ≡ Some k.kind) (same_Some (record { name = g; kind = IsField Int }) k e) refl
+  names (suc (suc zero)) k e = subst (λ (k : Member). member_named (tags name function) k.name ≡ Some k.kind) (same_Some (record { name = kind; kind = IsFunction kinds }) k e) refl
+  names (suc (suc (suc zero))) k e = subst (λ (k : Member). member_named (tags name function) k.name ≡ Some k.kind) (same_Some (record { name = name; kind = IsFunction function }) k e) it_is
   names (suc (suc (suc (suc n)))) k e = cc
 
   kinds_typed : IsTypedFunction (tags name function) kinds
@@ -116,8 +114,8 @@ module _ (name : Name) (function : Function) (it_is : member_named (tags name fu
       field_passes y = (refl, tt)
 
       passes : (y : Name) (l : Kind) → member_named (tags name function) y ≡ Some l → Passes (tags name function) y l replies
-      passes = by_name (λ y o. (l : Kind) → o ≡ Some l → Passes (tags name function) y l replies) (λ y l e. subst (λ (l : Kind). Passes (tags name function) y l replies) (some_is (IsField Int) l e) (field_passes y))
-          (λ l e. subst (λ (l : Kind). Passes (tags name function) kind l replies) (some_is (IsFunction kinds) l e) kind_passes) (λ l e. subst (λ (l : Kind). Passes (tags name function) name l replies) (some_is (IsFunction function) l e) its_walk)
+      passes = by_name (λ y o. (l : Kind) → o ≡ Some l → Passes (tags name function) y l replies) (λ y l e. subst (λ (l : Kind). Passes (tags name function) y l replies) (same_Some (IsField Int) l e) (field_passes y))
+          (λ l e. subst (λ (l : Kind). Passes (tags name function) kind l replies) (same_Some (IsFunction kinds) l e) kind_passes) (λ l e. subst (λ (l : Kind). Passes (tags name function) name l replies) (same_Some (IsFunction function) l e) its_walk)
           (λ y l e. nothing l e)
 
       never : Fails (tags name function) name (IsFunction function) → ⊥

@@ -2,6 +2,7 @@
 -- apart, is worth its part of the tree.
 use Rattle.std.proofs.Common.{◌≡◌, ℕ, Bool, true, false, cond, List, Option, Some, None, refl, sym, ◌∙◌, ap, subst, le_refl}
 use Rattle.std.specs.Prelude.{option_and_then}
+use Rattle.std.proofs.lemmas.Option.{same_Some}
 use Rattle.vx_ast.specs.declared.ValueType.{ValueType}
 use Rattle.vx_ast.specs.Syntax.{Name, Program, Expr, Exprs, Assertion, Pure, Points, Both, Implied, Chosen}
 use Rattle.vx_ast.specs.Syntax as syntax
@@ -24,7 +25,6 @@ use Rattle.vx_sound.proofs.World.{at_field}
 use Rattle.vx_sound.proofs.Standard.{IsStandard, IsWritten, leaf_of, leaf_is, first_value, second_value, unwrap_value, first_written, second_written, good_first, good_second, good_unwrap}
 use Rattle.vx_sound_preds.specs.Asking.{asking_tree, IsAsking}
 use Rattle.vx_sound_preds.proofs.Asked.{held_value, held_values}
-use Rattle.vx_sound_preds.proofs.Fitting.{some_is}
 use Rattle.vx_sound_preds.proofs.Flats.{came}
 use Rattle.vx_sound_preds.proofs.Looks.{Sees}
 use Rattle.vx_sound_funcs.specs.Firm.{GoodFunctions}
@@ -159,7 +159,7 @@ module _ (means : Meaning) (p : Program) (n : ℕ) where
         part_is = subst (λ z. value i (unwrap z t) ≡ element v) (sym sort_is) (ap (value i) (written.unwrap_is ft) ∙ unwrap_value i st ft t (element v) of_sort leaf_element)
 
     located : (c : run.State) (e : Expr) (f : Name) (r : Value) (u : Tree) (t : Term) → HasValue p c e r → location_leaf p c.heap f r ≡ Some u → Snap i u t → IsWritten t → OfField i c e f u t
-    located c e f (RefValue r) u t at tree k written = unwrapped c e f r u t at (sym (some_is _ u tree)) k written
+    located c e f (RefValue r) u t at tree k written = unwrapped c e f r u t at (sym (same_Some _ u tree)) k written
     located c e f (IntValue r) u t at tree k written = cc
     located c e f (BoolValue r) u t at tree k written = cc
     located c e f (PermValue r) u t at tree k written = cc
@@ -168,7 +168,7 @@ module _ (means : Meaning) (p : Program) (n : ℕ) where
     truth_is v u e = go (is_true v) e
       where
         go : (b : Bool) → cond b (Some Empty) None ≡ Some u → u ≡ Empty
-        go true e = sym (some_is Empty u e)
+        go true e = sym (same_Some Empty u e)
         go false e = cc
 
     chosen : {R : Type 0} (v : Value) (x y : Option Tree) (u : Tree) → plain.choose v x y ≡ Some u → ((b : Bool) → v ≡ BoolValue b → OnSide b (x ≡ Some u) (y ≡ Some u) → R) → R
@@ -187,14 +187,14 @@ module _ (means : Meaning) (p : Program) (n : ℕ) where
     written_worth m c (Both a b) u t eq k w =
         let x = came (asking_tree p (applications p m) (tree_by p m c.heap) c a) (λ t. option_and_then (λ u. Some (Pair t u)) (asking_tree p (applications p m) (tree_by p m c.heap) c b)) u eq in
         let y = came (asking_tree p (applications p m) (tree_by p m c.heap) c b) (λ u. Some (Pair x.it u)) u x.then in
-        let both : u ≡ Pair x.it y.it = sym (some_is (Pair x.it y.it) u y.then) in
+        let both : u ≡ Pair x.it y.it = sym (same_Some (Pair x.it y.it) u y.then) in
         let whole : value i t ≡ TreeElement (Pair x.it y.it) = k.is ∙ ap TreeElement both in
         let one : Snap i x.it (first t) = record { good = subst (λ u. Good means n i u SnapSort) (sym w.first_is) (good_first means k.good); is = ap (value i) w.first_is ∙ first_value i st t x.it y.it whole } in
         let two : Snap i y.it (second t) = record { good = subst (λ u. Good means n i u SnapSort) (sym w.second_is) (good_second means k.good); is = ap (value i) w.second_is ∙ second_value i st t x.it y.it whole } in
         (x.it, y.it, both, k, written_worth m c a x.it (first t) x.is one (subst IsWritten (sym w.first_is) (first_written t)), written_worth m c b y.it (second t) y.is two (subst IsWritten (sym w.second_is) (second_written t)))
     written_worth m c (Implied d a) u t eq k w =
         let v = came (plain.value p (applications p m) c d) (λ v. plain.choose v (asking_tree p (applications p m) (tree_by p m c.heap) c a) (Some Empty)) u eq in
-        chosen v.it (asking_tree p (applications p m) (tree_by p m c.heap) c a) (Some Empty) u v.then (λ b e s. (b, (m, v.is ∙ ap Some e), on_side b (λ f. written_worth m c a u t f k w) (λ f. (k, sym (some_is Empty u f))) s))
+        chosen v.it (asking_tree p (applications p m) (tree_by p m c.heap) c a) (Some Empty) u v.then (λ b e s. (b, (m, v.is ∙ ap Some e), on_side b (λ f. written_worth m c a u t f k w) (λ f. (k, sym (same_Some Empty u f))) s))
     written_worth m c (Chosen d a b) u t eq k w =
         let v = came (plain.value p (applications p m) c d) (λ v. plain.choose v (asking_tree p (applications p m) (tree_by p m c.heap) c a) (asking_tree p (applications p m) (tree_by p m c.heap) c b)) u eq in
         chosen v.it (asking_tree p (applications p m) (tree_by p m c.heap) c a) (asking_tree p (applications p m) (tree_by p m c.heap) c b) u v.then (λ x e s. (x, (m, v.is ∙ ap Some e), on_side x (λ f. written_worth m c a u t f k w) (λ f. written_worth m c b u t f k w) s))

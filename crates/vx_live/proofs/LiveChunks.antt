@@ -1,12 +1,13 @@
 -- Chunks that are found, added up and put: what is said of them is well-sorted, and the state keeps its shape.
 use Rattle.std.proofs.Common.{◌≡◌, ℕ, Bool, true, false, not, cond, ◌&&◌, inr, slice_set, List, [], ◌∷◌, ◌++◌, refl, sym, ◌∙◌, subst}
+use Rattle.std.proofs.lemmas.Bool.{and_parts}
 use Rattle.vx_ast.specs.declared.ValueType.TheVariants as type
 use Rattle.vx_ast.specs.Syntax.{Name, Program, Declaration}
 use Rattle.vx_terms.specs.Sorts.{Sort, BoolSort, RealSort, RefSort}
 use Rattle.vx_terms.specs.Terms.{Term, same, sort_of}
 use Rattle.vx_terms.specs.Build.{and, implies, equals, less, less_equal, zero_amount, whole_amount}
 use Rattle.vx_terms.specs.Interpretations.{Each}
-use Rattle.vx_terms.proofs.Same.{and_parts, bool_is, sort_is}
+use Rattle.vx_terms.proofs.Same.{bool_is, sort_is}
 use Rattle.vx_terms.proofs.Values.{sort_of_formed}
 use Rattle.vx_smt_meaning.specs.Commands.{Declared}
 use Rattle.vx_rules.specs.States as rules

@@ -1,6 +1,7 @@
 -- Each member of a typed program asks well-sorted questions, over the symbols of the program's functions; one that leads to no
 -- function asks them over the standard symbols alone.
 use Rattle.std.proofs.Common.{◌≡◌, inl, inr, arith, ℕ, suc, ◌+◌, Bool, true, false, cond, List, [], ◌∷◌, Option, Some, ◌∙◌, ap, subst}
+use Rattle.std.proofs.lemmas.Option.{same_Some}
 use Rattle.vx_ast.specs.Syntax.{Name, same_name, Program, Kind, IsField, IsPredicate, IsFunction, IsMethod, Predicate, Function, Method, member_named, predicate_in, predicate_named, function_in, function_named, method_in}
 use Rattle.vx_terms.specs.Interpretations.{Each}
 use Rattle.vx_smt_meaning.specs.Commands.{Declared}
@@ -116,15 +117,12 @@ symbol_among : (ms : Program) (n : ℕ) (f : Name) (g : Function) → function_n
 symbol_among [] n f g e = cc
 symbol_among (m ∷ ms) n f g e = step m.kind (same_name f m.name) e (λ k h. symbol_among ms k f g h)
   where
-    same_some : {A : Type 0} (a b : A) → Some a ≡ Some b → a ≡ b
-    same_some a b e = cc
-
     among : ℕ → List Declared → Type 0
     among k ds = Declares ds (function_symbol k g)
 
     step : (k : Kind) (b : Bool) → function_in (elim b as (λ b. Option Kind) [ true ↦ Some k | false ↦ member_named ms f ]) ≡ Some g → ((i : ℕ) → function_named ms f ≡ Some g → among (i + function_number ms f) (symbols_from ms i)) →
         among (n + cond b 0 (cond (is_function k) (suc (function_number ms f)) (function_number ms f))) (with_kind n k (symbols_from ms))
-    step (IsFunction h) true e rest = inl (ap (function_symbol n) (same_some h g e) ∙ ap (λ i. function_symbol i g) (omega arith))
+    step (IsFunction h) true e rest = inl (ap (function_symbol n) (same_Some h g e) ∙ ap (λ i. function_symbol i g) (omega arith))
     step (IsFunction h) false e rest = inr (subst (λ i. among i (symbols_from ms (suc n))) (omega arith) (rest (suc n) e))
     step (IsField t) true e rest = cc
     step (IsField t) false e rest = rest n e

@@ -1,6 +1,7 @@
 -- Locations that are read, taken and written, and instances that are taken: what is asked is well-sorted, and so are the symbols that
 -- stand for values and amounts then.
 use Rattle.std.proofs.Common.{◌≡◌, ℕ, zero, suc, Bool, true, false, not, cond, ◌&&◌, inr, slice_set, List, [], ◌∷◌, ◌++◌, refl, sym, subst}
+use Rattle.std.proofs.lemmas.Bool.{and_parts}
 use Rattle.vx_ast.specs.declared.Place.{Place}
 use Rattle.vx_ast.specs.declared.ValueType.TheVariants as type
 use Rattle.vx_ast.specs.Syntax.{Name, Program, Declaration}
@@ -8,7 +9,6 @@ use Rattle.vx_terms.specs.Sorts.{Sort, BoolSort, RealSort, RefSort}
 use Rattle.vx_terms.specs.Terms.{Term, same}
 use Rattle.vx_terms.specs.Build.{equals, less, less_equal, subtract, zero_amount, whole_amount}
 use Rattle.vx_terms.specs.Interpretations.{Each}
-use Rattle.vx_terms.proofs.Same.{and_parts}
 use Rattle.vx_smt_meaning.specs.Commands.{Declared}
 use Rattle.vx_rules.specs.States as rules
 use Rattle.vx_rules.specs.Trees.{Code, PermissionCode, Tree}

@@ -1,5 +1,6 @@
 -- The shape of a state: its terms have the sorts that typing says, over symbols below its next number.
 use Rattle.std.proofs.Common.{◌≡◌, ℕ, zero, suc, Bool, true, false, cond, List, [], ◌∷◌, ◌++◌, length, take, Option, Some, None, refl, sym, ap, subst, append_assoc}
+use Rattle.std.proofs.lemmas.Option.{same_Some}
 use Rattle.vx_ast.specs.declared.Place.{Place}
 use Rattle.vx_ast.specs.declared.ValueType.{ValueType}
 use Rattle.vx_ast.specs.declared.ValueType.TheVariants as type
@@ -125,9 +126,6 @@ with_chunks {p = p} heap le k sh = record { store = sh.store; path = sh.path; he
 
 -- What is read in a store, and what is written
 
-some_is : {A : Type 0} (a b : A) → Some a ≡ Some b → a ≡ b
-some_is a b e = cc
-
 pub found_formed : {fs : List Declared} {sorts : Sorts fs} {n : ℕ} (x : Name) (t : ValueType) (scope : Scope) (xs : rules.Store) → StoreShape sorts n scope xs → type_in x scope ≡ Some t → Fine sorts n (rules.found x xs) (sort_of_type t)
 found_formed x t [] xs h e = cc
 found_formed x t (d ∷ ds) [] h e = absurd h
@@ -135,7 +133,7 @@ found_formed {sorts = sorts} {n = n} x t (d ∷ ds) (a ∷ xs) h e =
     subst (λ y. Fine sorts n (cond (same_name x y) a.1 (rules.found x xs)) (sort_of_type t)) (sym h.0) (go (same_name x d.name) e (λ k. found_formed x t ds xs h.2 k))
   where
     go : (q : Bool) → cond q (Some d.of) (type_in x ds) ≡ Some t → (type_in x ds ≡ Some t → Fine sorts n (rules.found x xs) (sort_of_type t)) → Fine sorts n (cond q a.1 (rules.found x xs)) (sort_of_type t)
-    go true f k = subst (λ z. Fine sorts n a.1 (sort_of_type z)) (some_is d.of t f) h.1
+    go true f k = subst (λ z. Fine sorts n a.1 (sort_of_type z)) (same_Some d.of t f) h.1
     go false f k = k f
 
 pub shape_assign : {fs : List Declared} {sorts : Sorts fs} (n : ℕ) (x : Name) (t : ValueType) (u : Term) (scope : Scope) (xs : rules.Store) → StoreShape sorts n scope xs → type_in x scope ≡ Some t → Fine sorts n u (sort_of_type t) → StoreShape sorts n scope (rules.assign x u xs)
@@ -147,7 +145,7 @@ shape_assign {sorts = sorts} n x t u (d ∷ ds) (a ∷ xs) h e f =
   where
     go : (q : Bool) → same_name x d.name ≡ q → cond q (Some d.of) (type_in x ds) ≡ Some t → (type_in x ds ≡ Some t → StoreShape sorts n ds (rules.assign x u xs)) →
         StoreShape sorts n (d ∷ ds) (cond q ((x, u) ∷ xs) (a ∷ rules.assign x u xs))
-    go true m k r = (name_is x d.name m, subst (λ y. Fine sorts n u (sort_of_type y)) (sym (some_is d.of t k)) f, h.2)
+    go true m k r = (name_is x d.name m, subst (λ y. Fine sorts n u (sort_of_type y)) (sym (same_Some d.of t k)) f, h.2)
     go false m k r = (h.0, h.1, r k)
 
 pub shape_append : {fs : List Declared} {sorts : Sorts fs} (n : ℕ) (scope : Scope) (xs : rules.Store) (d : Declaration) (u : Term) → StoreShape sorts n scope xs → Fine sorts n u (sort_of_type d.of) → StoreShape sorts n (scope ++ d ∷ []) (xs ++ (d.name, u) ∷ [])

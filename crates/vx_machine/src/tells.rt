@@ -55,7 +55,7 @@ fn fact(alloc: Global, before: &SymState, said: &Said, left: &Left) -> Result<Rc
     ensures { IfOk result (λ t. held_term t ∷ [] ≡ gathered (state_of before.now) (said_by said.now) (record { value = held_term left.now.value; state = state_of left.now.state } ∷ [])) }
 {
     let said = says(alloc, said, &left.value)?;
-    vx_quiet::gathered(alloc, before, &left.state, &said)
+    vx_states::gathered(alloc, before, &left.state, &said)
 }
 
 /// One fact more, where a step leaves a side.
@@ -221,7 +221,7 @@ fn quiet_start(alloc: Global, x: &Applied, from: &SymState) -> Result<SymState, 
 {
     let application = &x.application;
     let arguments = application.arguments.to_vec(alloc)?;
-    vx_quiet::quiet(alloc, from, &application.function.parameters, &arguments)
+    vx_states::quiet(alloc, from, &application.function.parameters, &arguments)
 }
 
 /// A function's postconditions, joined.
@@ -264,7 +264,7 @@ fn with_promise(
     ensures { IfOk result (λ s. state_of s ≡ rule.with_promise (settled program.now) (rules (settled program.now)) (function_of x.now.application.value.function.value) (values_of x.now.application.value.arguments.value) (held_term x.now.snapshot) (held_term value.now) (state_of state)) }
 {
     let mut start = quiet_start(alloc, x, &state)?;
-    vx_quiet::bind_outcome(alloc, &mut start, value.clone()?)?;
+    vx_states::bind_outcome(alloc, &mut start, value.clone()?)?;
     let promise = promise(alloc, &x.application.function)?;
     let said = Said::Itself;
     with_sides(alloc, program, x, &promise, start, &said, state, levels)

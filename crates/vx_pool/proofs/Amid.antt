@@ -2,6 +2,7 @@
 use Rattle.std.proofs.Common.{◌≡◌, ℕ, zero, suc, ◌+◌, ◌<◌, ◌≤◌, Bool, true, false, List, [], ◌∷◌, ◌++◌, Some, None, Option, slice_get, slice_set, get_or, length, refl, ap, sym, subst, ◌∙◌, arith, ◌⊎◌, inl, inr}
 use Rattle.std.proofs.lemmas.List.{get_or-set_same, get_or-set_other}
 use Rattle.std.proofs.lemmas.Option.{slice_get_within}
+use Rattle.std.proofs.lemmas.Bool.{cases_eq}
 use Rattle.vx_rules.specs.Trees.{Question}
 use Rattle.vx_pool.specs.Events.{Event}
 use Rattle.vx_pool.specs.Lanes.{Spares, Moves, AreApart, numbers, IsDone, Stands, StandsAt, AreStanding, AreFree, AreDone, AreHeld, Amid, Stopped, Changes}
@@ -137,19 +138,13 @@ module _ {F W T H X : Type 0} (log : W → List (Event F)) (asked : W → Option
       → Stopped Held lane Later lanes0 hub0 hub2 lanes2
   stopped_after on lanes0 hub0 lanes1 hub1 lanes2 hub2 first then = record { held = then.held; numbered = then.numbered ∙ first.numbered; later = on hub0 hub1 hub2 first.later then.later }
 
-same_or_not : (j i : ℕ) → (j ≡ i) ⊎ (j ≡ i → ⊥)
-same_or_not zero zero = inl refl
-same_or_not zero (suc i) = inr (λ e. omega arith)
-same_or_not (suc j) zero = inr (λ e. omega arith)
-same_or_not (suc j) (suc i) = elim (same_or_not j i) [ inl e ↦ inl (ap suc e) | inr n ↦ inr (λ e. n (omega arith)) ]
-
 some_is_no_none : {b : Bool} → Some b ≡ None → ⊥
 some_is_no_none e = grind arith
 
 -- a lane that was driven is driven still, and so is the one that is now
 pub driven_set : (states : List (Option Bool)) (i n : ℕ) (waits : Bool) → i < length states → ((j : ℕ) → (j ≡ i → ⊥) → j < n → get_or states j None ≡ None → ⊥)
     → (j : ℕ) → j < n → get_or (slice_set states i (Some waits)) j None ≡ None → ⊥
-driven_set states i n waits within driven j near none = elim (same_or_not j i) [
+driven_set states i n waits within driven j near none = elim (cases_eq j i) [
   | inl e ↦ some_is_no_none (sym (ap (λ k. get_or (slice_set states i (Some waits)) k None) e ∙ get_or-set_same states i (Some waits) None within) ∙ none)
   | inr other ↦ driven j other near (sym (get_or-set_other states i j (Some waits) None other) ∙ none)
 ]

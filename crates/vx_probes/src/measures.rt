@@ -20,7 +20,7 @@ use std::alloc::{AllocError, Global};
 use std::rc::Rc;
 use vx_ast::Place;
 use vx_heap::{Candidate, Resource, SymHeap};
-use vx_quiet::mark_root;
+use vx_states::mark_root;
 use vx_resolved::Settled;
 use vx_rules::Code;
 use vx_stack::{Applied, Conts, Frame, Hole, Move, Next, Search, Side, Values, Verified};

@@ -1,6 +1,7 @@
 -- An expression whose evaluation is exposed doesn't fit at the place, or has the value of its term, and what follows is exposed.
-use Rattle.std.proofs.Common.{◌≡◌, ◌⊎◌, inl, inr, Bool, true, false, cond, ◌&&◌, pos, List, [], ◌∷◌, Some, None, refl, sym, ◌∙◌, ap, subst, le_refl, le_trans, true≢false}
+use Rattle.std.proofs.Common.{◌≡◌, ◌⊎◌, inl, inr, cond, ◌&&◌, pos, List, [], ◌∷◌, Some, None, refl, sym, ◌∙◌, ap, subst, le_refl, le_trans, true≢false}
 use Rattle.std.specs.Prelude.{Ok}
+use Rattle.std.proofs.lemmas.Bool.{false_from_ne_true, and_parts}
 use Rattle.vx_frac.specs.Fractions.{is_positive, over, lowest}
 use Rattle.vx_frac.proofs.Lowest.{lowest-lowest}
 use Rattle.vx_ast.specs.declared.Place.{Place}
@@ -16,7 +17,6 @@ use Rattle.vx_terms.specs.Terms as term
 use Rattle.vx_terms.specs.Build.{negate, ite, null}
 use Rattle.vx_terms.specs.Interpretations.{Interpretation, as_bool, value}
 use Rattle.vx_terms.specs.Formed.{number, truth, part as formed_part}
-use Rattle.vx_terms.proofs.Same.{and_parts}
 use Rattle.vx_rules.specs.States as rules
 use Rattle.vx_rules.specs.States.{sort_of_type}
 use Rattle.vx_rules.specs.Trees.{Code, Step, DivisorCode}
@@ -75,14 +75,10 @@ module _ (means : Meaning) (p : Program) (i : Interpretation) where
             eventually r.fits (λ n h.
                 bind_ok (λ r. or_fail place (fits.location_of f r) >>= λ l. or_fail place (fits.readable p c l)) r.result h
                 ∙ ap (λ r. or_fail place (fits.location_of f r) >>= λ l. or_fail place (fits.readable p c l)) k.1
-                ∙ ap (λ b. or_fail place (cond b (Some (run.value_at p c.heap (at_field k.0 f))) None)) (none_held (is_positive (run.amount c.holdings (run.At (at_field k.0 f)))) (λ e. m.1 record { holds = e }))),
+                ∙ ap (λ b. or_fail place (cond b (Some (run.value_at p c.heap (at_field k.0 f))) None)) (false_from_ne_true (is_positive (run.amount c.holdings (run.At (at_field k.0 f)))) (λ e. m.1 record { holds = e }))),
           ),
           refl,
         )
-      where
-        none_held : (b : Bool) → (b ≡ true → ⊥) → b ≡ false
-        none_held true h = absurd (h refl)
-        none_held false h = refl
     reads_real {place = place} {t = t} s c on first f named r k (inr q) =
         let l = at_field k.0 f in
         let sort_is : field_sort p f ≡ sort_of_type t = sort_of_field p f ∙ ap sort_of_type (field_type_is p f named) in

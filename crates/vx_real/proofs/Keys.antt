@@ -1,10 +1,11 @@
 -- What chunks are of stays as they are changed, taken out and added; so each receiver is a reference, and stands once.
 use Rattle.std.proofs.Common.{◌≡◌, ◌⊎◌, inl, inr, ℕ, suc, Bool, true, false, cond, ◌&&◌, List, [], ◌∷◌, ◌++◌, slice_set, refl, sym, ◌∙◌, ap, subst, true≢false}
+use Rattle.std.proofs.lemmas.Bool.{and_from, and_parts}
 use Rattle.vx_ast.specs.Syntax.{same_name}
 use Rattle.vx_terms.specs.Terms.{Term, same, same_bool}
 use Rattle.vx_terms.specs.Build.{subtract, zero_amount}
 use Rattle.vx_terms.specs.Interpretations.{Each, Interpretation}
-use Rattle.vx_terms.proofs.Same.{and_parts, bool_is}
+use Rattle.vx_terms.proofs.Same.{bool_is}
 use Rattle.vx_rules.specs.States as rules
 use Rattle.vx_rules.specs.Chunks.{Candidate, same_arguments, chosen, without, reduced, without_empty}
 use Rattle.vx_elements.proofs.Lists.{name_is, each_out, each_append, each_map}
@@ -140,11 +141,7 @@ once_from key (c ∷ cs) n a = go (same_bool key.is_field c.is_field && same_nam
         AtMostOne (cond (x && same_bool true y) (record { number = n; chunk = c } ∷ chosen true key (suc n) cs) (chosen true key (suc n) cs))
     go false y p q rest = rest
     go true false p q rest = rest
-    go true true p q rest = inr (at, ap (λ ds. at ∷ ds) (differs key cs (suc n) (each_map (λ (l : Key). same_key l (key_of c) ≡ false) (λ (l : Key). same_key (key_of key) l ≡ false) (λ l d. other_key (key_of key) (key_of c) l (both p q) d) (keys cs) a.0)))
-      where
-        both : {x y : Bool} → x ≡ true → y ≡ true → (x && y) ≡ true
-        both {x = true} p q = q
-        both {x = false} p q = p
+    go true true p q rest = inr (at, ap (λ ds. at ∷ ds) (differs key cs (suc n) (each_map (λ (l : Key). same_key l (key_of c) ≡ false) (λ (l : Key). same_key (key_of key) l ≡ false) (λ l d. other_key (key_of key) (key_of c) l (and_from _ _ p q) d) (keys cs) a.0)))
 
 pub once : (key : rules.Chunk) (h : rules.Heap) → AreApart (keys h) → IsOnce key h
 once key h a = once_from key h 0 a

@@ -1,5 +1,6 @@
 -- Loops backwards: the invariant is taken; then an arbitrary iteration fails, or it goes on behind the loop.
-use Rattle.std.proofs.Common.{◌≡◌, ◌⊎◌, inl, inr, ℕ, Bool, true, false, not, List, [], length, None, refl, sym, ◌∙◌, ap, subst, le_trans}
+use Rattle.std.proofs.Common.{◌≡◌, ◌⊎◌, inl, inr, ℕ, Bool, true, false, List, [], length, None, refl, sym, ◌∙◌, ap, subst, le_trans}
+use Rattle.std.proofs.lemmas.Bool.{not-true}
 use Rattle.vx_frac.specs.Fractions.{none, full}
 use Rattle.vx_ast.specs.declared.Place.{Place}
 use Rattle.vx_ast.specs.declared.ValueType.TheVariants as type
@@ -47,11 +48,7 @@ use Rattle.vx_real.proofs.Plain.{own_place, fits_always, misfit_fails, mistake_f
 use Rattle.vx_real.proofs.Scoped.{picks, side_fails, side_leads, Runs, scoped_real}
 
 pub denied_false : (means : Meaning) (i : Interpretation) {n : ℕ} (t : Term) → Good means n i t BoolSort → IsTrueIn i (negate t) → as_bool (value i t) ≡ false
-denied_false means i t g told = no (as_bool (value i t)) (sym (ap as_bool (negate_value i g.formed)) ∙ told)
-  where
-    no : (x : Bool) → not x ≡ true → x ≡ false
-    no true e = sym e
-    no false e = refl
+denied_false means i t g told = not-true (as_bool (value i t)) (sym (ap as_bool (negate_value i g.formed)) ∙ told)
 
 -- nothing is held
 pub nothing_exact : (i : Interpretation) → Exact i [] []

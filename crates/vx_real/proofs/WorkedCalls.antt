@@ -1,5 +1,6 @@
 -- The law at work over a call: what the callee may change is no longer known.
 use Rattle.std.proofs.Common.{◌≡◌, ◌<◌, ℕ, zero, suc, Bool, true, false, [], ◌∷◌, Option, Some, None, slice_get, refl, subst, arith}
+use Rattle.std.proofs.lemmas.Option.{same_Some}
 use Rattle.vx_frac.specs.Fractions.{lowest}
 use Rattle.vx_ast.specs.declared.ValueType.TheVariants.{Int}
 use Rattle.vx_ast.specs.Syntax.{Name, same_name, Member, Kind, IsField, IsMethod, Predicate, Function, Method, Equal, member_named, predicate_in, function_in, method_in, predicate_named, function_named, method_named}
@@ -52,9 +53,6 @@ by_name P at_f at_c at_m at_none y = go (same_name y f) (same_name y c) (same_na
     go false false true = at_m
     go false false false = at_none
 
-some_is : {A : Type 0} (a b : A) → Some a ≡ Some b → a ≡ b
-some_is a b e = cc
-
 nothing : {A R : Type 0} (a : A) → (let o : Option A = None in o) ≡ Some a → R
 nothing a e = cc
 
@@ -66,12 +64,12 @@ no_function = by_name (λ o. (g : Function) → function_in o ≡ Some g → ⊥
 
 typed_method : (y : Name) (n : Method) → method_named calls y ≡ Some n → IsTypedMethod calls n
 typed_method = by_name (λ o. (n : Method) → method_in o ≡ Some n → IsTypedMethod calls n) (λ n e. nothing n e)
-    (λ n e. subst (IsTypedMethod calls) (some_is changes n e) changes_typed) (λ n e. subst (IsTypedMethod calls) (some_is hopes n e) hopes_typed) (λ n e. nothing n e)
+    (λ n e. subst (IsTypedMethod calls) (same_Some changes n e) changes_typed) (λ n e. subst (IsTypedMethod calls) (same_Some hopes n e) hopes_typed) (λ n e. nothing n e)
 
 named : (n : ℕ) (k : Member) → slice_get calls n ≡ Some k → member_named calls k.name ≡ Some k.kind
-named zero k e = subst (λ (k : Member). member_named calls k.name ≡ Some k.kind) (some_is (record { name = f; kind = IsField Int }) k e) refl
-named (suc zero) k e = subst (λ (k : Member). member_named calls k.name ≡ Some k.kind) (some_is (record { name = c; kind = IsMethod changes }) k e) refl
-named (suc (suc zero)) k e = subst (λ (k : Member). member_named calls k.name ≡ Some k.kind) (some_is (record { name = m; kind = IsMethod hopes }) k e) refl
+named zero k e = subst (λ (k : Member). member_named calls k.name ≡ Some k.kind) (same_Some (record { name = f; kind = IsField Int }) k e) refl
+named (suc zero) k e = subst (λ (k : Member). member_named calls k.name ≡ Some k.kind) (same_Some (record { name = c; kind = IsMethod changes }) k e) refl
+named (suc (suc zero)) k e = subst (λ (k : Member). member_named calls k.name ≡ Some k.kind) (same_Some (record { name = m; kind = IsMethod hopes }) k e) refl
 named (suc (suc (suc n))) k e = cc
 
 pub calls_typed : IsTypedProgram calls
@@ -102,7 +100,7 @@ alone y (further {y = z} k h) = absurd (subst (λ (w : Name). Stands y (mentions
 
 closed : IsInFieldFragment calls m
 closed y k h e =
-    let kind : IsMethod hopes ≡ k = some_is (IsMethod hopes) k (subst (λ (z : Name). member_named calls z ≡ Some k) (alone y h) e) in
+    let kind : IsMethod hopes ≡ k = same_Some (IsMethod hopes) k (subst (λ (z : Name). member_named calls z ≡ Some k) (alone y h) e) in
     subst IsCallingMember kind hopes_calling
 
 pub hopes_stop : (walk (method_tree calls hopes) (Sat ∷ [])).ending ≡ Failed (on_line 8) AssertCode Sat

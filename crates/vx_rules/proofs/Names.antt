@@ -1,10 +1,7 @@
 -- Names that are found the same are.
-use Rattle.std.proofs.Common.{◌≡◌, Bool, true, false, ◌&&◌, [], ◌∷◌, refl, sym, ap₂, true≢false, eqb-true}
+use Rattle.std.proofs.Common.{◌≡◌, true, ◌&&◌, [], ◌∷◌, refl, sym, ap₂, true≢false, eqb-true}
+use Rattle.std.proofs.lemmas.Bool.{and_parts}
 use Rattle.vx_ast.specs.Syntax.{Name, same_name}
-
-and_parts : (a b : Bool) → (a && b) ≡ true → (a ≡ true) × (b ≡ true)
-and_parts true b e = (refl, e)
-and_parts false b e = absurd (true≢false (sym e))
 
 pub same_name_is : (x y : Name) → same_name x y ≡ true → x ≡ y
 same_name_is [] [] e = refl

@@ -1,6 +1,7 @@
 -- Where no predicate fails, the body of each proper instance fits with what it gives: so another heap that agrees keeps what is held.
 use Rattle.std.proofs.Common.{arith, ◌≡◌, ◌+◌, ℕ, suc, true, false, inl, inr, [], ◌∷◌, Option, Some, None, refl, sym, ◌∙◌, ap, subst}
 use Rattle.std.specs.Prelude.{Ok, option_and_then, unwrap_or}
+use Rattle.std.proofs.lemmas.Option.{same_Some}
 use Rattle.vx_frac.specs.Fractions.{none, full, product}
 use Rattle.vx_ast.specs.Syntax.{Name, Program, Predicate, IsPredicate, predicate_named, member_named, Assertion}
 use Rattle.vx_meaning.specs.States.{State, Heap, Holdings, Location, Instance, At, Folded, HaveTypes, amount, bind, with_heap, with_holdings}
@@ -15,7 +16,6 @@ use Rattle.vx_amounts.proofs.Products.{product_sign, product_positive, positive_
 use Rattle.vx_sound.proofs.World.{at_field, IsTypedInstance}
 use Rattle.vx_sound_preds.specs.Bodies.{GoodBodies}
 use Rattle.vx_sound_preds.specs.Covered.{AllGood, Covered}
-use Rattle.vx_sound_preds.proofs.Fitting.{some_is}
 use Rattle.vx_sound_preds.proofs.Flats.{came, flat_later}
 use Rattle.vx_sound_preds.proofs.Totals.{weigh, weigh_none, weight, weight_sign, weight_of_body, weigh_sign, total_weighs, same_is}
 use Rattle.vx_sound_preds.proofs.Grouped.{AreSingle, NoDebts}
@@ -117,11 +117,11 @@ module _ (p : Program) (typed : IsTypedProgram p) where
       side_of d (Some a) = entries p (bare (bind d.parameters i.arguments) h) a
 
       go : (d : Predicate) → predicate_named p i.predicate ≡ Some d → (b : Option Assertion) → d.body ≡ b → side_of d d.body ≡ Some es → AllGood (IsSound p) h es
-      go d is None body f = subst (AllGood (IsSound p) h) (some_is [] es (sym (ap (side_of d) body) ∙ f)) tt
+      go d is None body f = subst (AllGood (IsSound p) h) (same_Some [] es (sym (ap (side_of d) body) ∙ f)) tt
       go d is (Some a) body f =
           let of : entries p (bare (bind d.parameters i.arguments) h) a ≡ Some es = sym (ap (side_of d) body) ∙ f in
           let o = opened p h i d a is body k.grounded in
-          let one : o.entries_of ≡ es = some_is o.entries_of es (sym o.entries_are ∙ of) in
+          let one : o.entries_of ≡ es = same_Some o.entries_of es (sym o.entries_are ∙ of) in
           let ps = entries_positive p (bare (bind d.parameters i.arguments) h) a es (good.plain i.predicate d a is body) of in
           all_sound h es (of_body h i d a es is body k of) (subst (AreEntries p h) one o.can) (λ n f. (k.grounded.0, lighter h (k.grounded.0 + n) (at_field 0 f) es ps (light h i k es e n f)))
 

@@ -1,6 +1,7 @@
 -- What the body of a grounded instance gives is known: it is added and given alike, or it fails.
 use Rattle.std.proofs.Common.{arith, ◌≡◌, ◌≤◌, ◌+◌, ℕ, Bool, true, false, cond, ◌⊎◌, inl, inr, [], ◌∷◌, ◌++◌, Option, Some, None, refl, sym, ◌∙◌, ap, subst}
 use Rattle.std.specs.Prelude.{Ok, Err, option_and_then}
+use Rattle.std.proofs.lemmas.Option.{same_Some}
 use Rattle.vx_ast.specs.declared.Place.{Place}
 use Rattle.vx_frac.specs.Fractions.{Fraction, none, full, product, at_most, is_positive}
 use Rattle.vx_ast.specs.Syntax.{Program, Expr, Assertion, Pure, Points, Both, Implied, Chosen, place_of}
@@ -19,7 +20,7 @@ use Rattle.vx_amounts.proofs.Amounts.{full-positive}
 use Rattle.vx_amounts.proofs.Products.{positive_le}
 use Rattle.vx_sound.proofs.World.{at_field}
 use Rattle.vx_sound_preds.specs.Bodies.{GoodBodies, Rigid, IsPlain, IsPlainBody}
-use Rattle.vx_sound_preds.proofs.Fitting.{some_is, step}
+use Rattle.vx_sound_preds.proofs.Fitting.{step}
 use Rattle.vx_sound_preds.proofs.Framing.{entries_seen}
 use Rattle.vx_sound_preds.proofs.Flats.{came}
 use Rattle.vx_sound_preds.proofs.Adding.{Fine, AreEntries, Adds, added, added_append, add_adds, value_here}
@@ -164,7 +165,7 @@ module _ (p : Program) (typed : IsTypedProgram p) where
   decides (Both a b) s es k f en can ps holds =
       let y = came (entries p s a) (λ xs. option_and_then (λ ys. Some (xs ++ ys)) (entries p s b)) es en in
       let z = came (entries p s b) (λ ys. Some (y.it ++ ys)) es y.then in
-      let es_is : y.it ++ z.it ≡ es = some_is (y.it ++ z.it) es z.then in
+      let es_is : y.it ++ z.it ≡ es = same_Some (y.it ++ z.it) es z.then in
       let all = subst (AreEntries p s.heap) (sym es_is) can in
       let pos = subst AllPositive (sym es_is) ps in
       let whole : Holds s.heap (added full z.it (added full y.it s.holdings)) = subst (Holds s.heap) (ap (λ (xs : Holdings). added full xs s.holdings) (sym es_is) ∙ added_append full y.it z.it s.holdings) holds in

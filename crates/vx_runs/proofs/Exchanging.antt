@@ -1,6 +1,8 @@
 -- What is exchanged for its body: nothing is held that wasn't, and the state stays one that can be.
 use Rattle.std.proofs.Common.{arith, ◌≡◌, ◌+◌, ℕ, Bool, true, false, cond, List, [], ◌∷◌, Option, Some, None, refl, sym, ◌∙◌, ap, subst}
 use Rattle.std.specs.Prelude.{Ok, Err, option_and_then}
+use Rattle.std.proofs.lemmas.Option.{same_Some}
+use Rattle.std.proofs.lemmas.Bool.{and_parts}
 use Rattle.vx_frac.specs.Fractions.{Fraction, none, sum}
 use Rattle.vx_ast.specs.Syntax.{Name, Program, Predicate, predicate_named, Assertion, Pure, Points, Both, Implied, Chosen, Exprs}
 use Rattle.vx_ast.specs.Syntax as syntax
@@ -12,12 +14,10 @@ use Rattle.vx_meaning.specs.Consistent.{IsHeld, total}
 use Rattle.vx_meaning.specs.Fits.{Checked, ◌>>=◌, to_option, has_instance, Deeper, deeper, add, exchange, fit_all}
 use Rattle.vx_types.specs.Typing.{Scope, IsTyped, IsTypedContent, HaveNoPerm}
 use Rattle.vx_types.specs.Premises.{IsTypedProgram}
-use Rattle.vx_terms.proofs.Same.{and_parts}
 use Rattle.vx_amounts.proofs.Amounts.{Le, Positive, positive-le, not-positive, le-refl, le-trans}
 use Rattle.vx_amounts.proofs.Products.{positive_le}
 use Rattle.vx_sound.proofs.World.{IsTypedInstance, IsTypedResource}
 use Rattle.vx_sound_preds.specs.Bodies.{GoodBodies}
-use Rattle.vx_sound_preds.proofs.Fitting.{some_is}
 use Rattle.vx_sound_preds.proofs.Grouped.{resource_is, AreSingle, NoDebts}
 use Rattle.vx_sound_preds.proofs.Flats.{flat_later}
 use Rattle.vx_sound_preds.proofs.Totals.{total_weighs}
@@ -64,7 +64,7 @@ module _ (p : Program) (d : Deeper) (i : Instance) (q : Fraction) (s : State) wh
       nothing e = cc
 
       ended : (x : Checked State) → to_option (x >>= λ u. Ok (with_store s.store u)) ≡ Some u → (v : State) × (x ≡ Ok v) × (with_store s.store v ≡ u)
-      ended (Ok v) e = (v, refl, some_is (with_store s.store v) u e)
+      ended (Ok v) e = (v, refl, same_Some (with_store s.store v) u e)
       ended (Err at) e = nothing e
 
       on : (b : Predicate) → predicate_named p i.predicate ≡ Some b → (a : Option Assertion) → b.body ≡ a → body_side b a ≡ Some u → Unfolded p d i q s u

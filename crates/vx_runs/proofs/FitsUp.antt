@@ -1,6 +1,7 @@
 -- What fits with less fits with more, with the same value, where what is opened and applied does.
 use Rattle.std.proofs.Common.{◌≡◌, ℕ, Bool, true, false, cond, ◌&&◌, List, ◌∷◌, Option, Some, None, refl, sym, ◌∙◌, ap, ap₂}
 use Rattle.std.specs.Prelude.{Ok}
+use Rattle.std.proofs.lemmas.Bool.{and_parts}
 use Rattle.vx_ast.specs.declared.Place.{Place}
 use Rattle.vx_ast.specs.declared.ValueType.{ValueType}
 use Rattle.vx_frac.specs.Fractions.{Fraction, is_positive}
@@ -11,7 +12,6 @@ use Rattle.vx_meaning.specs.States.{State, Location, Instance, At, Folded, amoun
 use Rattle.vx_meaning.specs.Fits.{Checked, ◌>>=◌, or_fail, guard, choose, connected, location_of, amount_of, readable, has_instance, Deeper, deeper, fit, fit_all, Eventually}
 use Rattle.vx_types.specs.Typing.{Scope, HasType, number, truth, nulls, part, variable, nots, operates, scales, divides, connects, chooses, reads, olds, applies, unfoldings, HaveTypes, no_more, more}
 use Rattle.vx_types.specs.Premises.{IsTypedProgram}
-use Rattle.vx_terms.proofs.Same.{and_parts}
 use Rattle.vx_amounts.proofs.Amounts.{Le, Positive, le-trans, positive-le}
 use Rattle.vx_sound.proofs.Chunks.{held_directly}
 use Rattle.vx_sound.proofs.Stripped.{all_fit_worth}

@@ -2,6 +2,7 @@
 -- their preconditions take.
 use Rattle.std.proofs.Common.{arith, ◌≡◌, ◌≤◌, ◌+◌, ℕ, zero, suc, pos, Bool, true, false, cond, ◌⊎◌, inl, inr, List, [], ◌∷◌, Option, Some, None, refl, sym, ◌∙◌, ap, subst}
 use Rattle.std.specs.Prelude.{Ok, option_and_then}
+use Rattle.std.proofs.lemmas.Option.{same_Some}
 use Rattle.vx_ast.specs.declared.Place.{Place}
 use Rattle.vx_ast.specs.declared.ValueType.{ValueType}
 use Rattle.vx_frac.specs.Fractions.{Fraction, full, is_positive}
@@ -19,7 +20,7 @@ use Rattle.vx_types.specs.Premises.{IsTypedProgram}
 use Rattle.vx_sound.proofs.Chunks.{held_directly}
 use Rattle.vx_sound.proofs.Fuel.{one_value, all_one_value, applications_later}
 use Rattle.vx_sound.proofs.Stripped.{fit_worth, all_fit_worth}
-use Rattle.vx_sound_preds.proofs.Fitting.{undo, not_failed, guarded, some_is}
+use Rattle.vx_sound_preds.proofs.Fitting.{undo, not_failed, guarded}
 use Rattle.vx_sound_preds.proofs.Framing.{ok_same, failed}
 use Rattle.vx_sound_preds.proofs.Flats.{came}
 use Rattle.vx_sound_preds.proofs.Asked.{held_value}
@@ -54,7 +55,7 @@ self n = omega arith
 applied_one : (p : Program) (f : Name) (vs : List Value) (s : State) (v w : Value) (n m : ℕ) → applications p n f vs s ≡ Some v → applications p m f vs s ≡ Some w → v ≡ w
 applied_one p f vs s v w n m h k =
     let z : m + n ≡ n + m = omega arith in
-    some_is v w (sym (applications_later p m n f vs s v h) ∙ ap (λ (j : ℕ). applications p j f vs s) z ∙ applications_later p n m f vs s w k)
+    same_Some v w (sym (applications_later p m n f vs s v h) ∙ ap (λ (j : ℕ). applications p j f vs s) z ∙ applications_later p n m f vs s w k)
 
 -- what may be applied has its value
 applied_worth : (p : Program) (m : ℕ) (f : Name) (vs : List Value) (s : State) (v : Value) → (let d : Deeper = deeper p m in d.applied f vs s ≡ Some v) → applications p m f vs s ≡ Some v

@@ -1,13 +1,13 @@
 -- Stores that are of a scope: each name has a value of its type.
 use Rattle.std.proofs.Common.{◌≡◌, Bool, true, false, cond, List, [], ◌∷◌, ◌++◌, length, take, Some, None, refl, sym, ◌∙◌, ap, subst}
 use Rattle.std.specs.Prelude.{option_and_then}
+use Rattle.std.proofs.lemmas.Option.{same_Some}
 use Rattle.vx_ast.specs.declared.ValueType.{ValueType}
 use Rattle.vx_ast.specs.Syntax.{Name, same_name, Declaration, Program}
 use Rattle.vx_meaning.specs.Values.{Value, type_of}
 use Rattle.vx_meaning.specs.States.{Store, lookup, assign, assign_all, bind, HaveTypes}
 use Rattle.vx_types.specs.Typing.{Scope, type_in, AreOnce, TargetsHaveTypes}
 use Rattle.vx_elements.proofs.Lists.{name_is, name_same}
-use Rattle.vx_sound_preds.proofs.Fitting.{some_is}
 use Rattle.vx_sound_preds.proofs.Flats.{came}
 use Rattle.vx_sound_preds.proofs.TypedValues.{AreTyped}
 use Rattle.vx_runs.specs.Whole.{returned}
@@ -23,7 +23,7 @@ store_typed (d ∷ ds) [] k x t v e f = absurd k
 store_typed (d ∷ ds) (y ∷ ys) k x t v e f = go (same_name x d.name) e (subst (λ (n : Name). cond (same_name x n) (Some y.1) (lookup x ys) ≡ Some v) k.0 f) (store_typed ds ys k.2 x t v)
   where
     go : (b : Bool) → cond b (Some d.of) (type_in x ds) ≡ Some t → cond b (Some y.1) (lookup x ys) ≡ Some v → (type_in x ds ≡ Some t → lookup x ys ≡ Some v → type_of v ≡ t) → type_of v ≡ t
-    go true e f r = ap type_of (sym (some_is y.1 v f)) ∙ k.1 ∙ type_is d.of t e
+    go true e f r = ap type_of (sym (same_Some y.1 v f)) ∙ k.1 ∙ type_is d.of t e
     go false e f r = r e f
 
 pub store_both : (ds es : Scope) (xs ys : Store) → StoreOf ds xs → StoreOf es ys → StoreOf (ds ++ es) (xs ++ ys)
@@ -94,11 +94,11 @@ AreIn [] ds = Unit {0}
 AreIn (r ∷ rs) ds = (type_in r.name ds ≡ Some r.of) × AreIn rs ds
 
 pub returned_typed : (ds : Scope) (rs : List Declaration) (xs : Store) (us : List Value) → AreTyped ds xs → AreIn rs ds → returned rs xs ≡ Some us → HaveTypes rs us
-returned_typed ds [] xs us t k e = subst (HaveTypes []) (some_is [] us e) tt
+returned_typed ds [] xs us t k e = subst (HaveTypes []) (same_Some [] us e) tt
 returned_typed ds (r ∷ rs) xs us t k e =
     let x = came (lookup r.name xs) (λ v. option_and_then (λ vs. Some (v ∷ vs)) (returned rs xs)) us e in
     let y = came (returned rs xs) (λ vs. Some (x.it ∷ vs)) us x.then in
-    subst (HaveTypes (r ∷ rs)) (some_is (x.it ∷ y.it) us y.then) (t r.name r.of x.it k.0 x.is, returned_typed ds rs xs y.it t k.1 y.is)
+    subst (HaveTypes (r ∷ rs)) (same_Some (x.it ∷ y.it) us y.then) (t r.name r.of x.it k.0 x.is, returned_typed ds rs xs y.it t k.1 y.is)
 
 pub in_longer : (rs : List Declaration) (ds more : Scope) → AreIn rs ds → AreIn rs (ds ++ more)
 in_longer [] ds more k = tt

@@ -1,6 +1,7 @@
--- An unfold goes: the body is given to both, and what was held folded is held openly, so no value there could have changed.
-use Rattle.std.proofs.Common.{arith, ◌≡◌, ◌≤◌, ℕ, Bool, true, false, ◌&&◌, ◌⊎◌, inl, inr, List, [], ◌∷◌, ◌++◌, Some, refl, sym, ◌∙◌, ap, subst}
+-- An unfold goes: the body is given to and_from _ _, and what was held folded is held openly, so no value there could have changed.
+use Rattle.std.proofs.Common.{arith, ◌≡◌, ◌≤◌, ℕ, true, ◌&&◌, ◌⊎◌, inl, inr, List, [], ◌∷◌, ◌++◌, Some, refl, sym, ◌∙◌, ap, subst}
 use Rattle.std.specs.Prelude.{Ok}
+use Rattle.std.proofs.lemmas.Bool.{and_from, and_parts}
 use Rattle.vx_ast.specs.declared.Place.{Place}
 use Rattle.vx_frac.specs.Fractions.{Fraction, minus, is_positive, at_most}
 use Rattle.vx_ast.specs.Syntax.{Name, Program, Predicate, predicate_named, Expr, Exprs, Assertion, Unfold}
@@ -14,7 +15,6 @@ use Rattle.vx_meaning.specs.Give.{give}
 use Rattle.vx_meaning.specs.Around.{Around, nobody, IsPossible}
 use Rattle.vx_meaning.specs.Run.{run, instance_at, unfold_it_beside}
 use Rattle.vx_types.specs.Typing.{Scope, IsTyped}
-use Rattle.vx_terms.proofs.Same.{and_parts}
 use Rattle.vx_amounts.proofs.Amounts.{Le, Positive, le-trans}
 use Rattle.vx_amounts.proofs.Products.{positive_le}
 use Rattle.vx_sound.proofs.World.{IsTypedInstance}
@@ -106,13 +106,9 @@ module _ (p : Program) (l : Laws p) (at : Place) (i : Instance) (q : Fraction) (
         (m : Location) → IsHeld p w.heap f.less m → IsHeld p w.heap (k.entries ++ lost (Folded i) q f.less) m
     covers t k g old b r sane m z =
         let there = held_there p (good_bodies p l.typed) l.kept w.heap g f.less f.sane (alike_agrees p w.heap g f.less b.heap) m z in
-        let inside = unfolded_covers p l.typed (IsConsistent p) (seen w f.less f.old_less g old) (with_holdings (k.entries ++ lost (Folded i) q f.less) (opening (seen w f.less f.old_less g old))) i q d e named is ty vars b.under.sane (has pos.holds enough.holds) r m there in
+        let inside = unfolded_covers p l.typed (IsConsistent p) (seen w f.less f.old_less g old) (with_holdings (k.entries ++ lost (Folded i) q f.less) (opening (seen w f.less f.old_less g old))) i q d e named is ty vars b.under.sane (and_from _ _ pos.holds enough.holds) r m there in
         let back = l.kept w.heap g (k.entries ++ lost (Folded i) q f.less) sane (alike_agrees p w.heap g (k.entries ++ lost (Folded i) q f.less) b.heap) in
         back.1 m inside
-      where
-        has : {x y : Bool} → x ≡ true → y ≡ true → (x && y) ≡ true
-        has {x = true} e f = f
-        has {x = false} e f = e
 
     pub opened : (Then : State → Type 0) → ((g old : Heap) → Reached (seen w f.less f.old_less g old) → (t : State) → give p (IsConsistent p) q e (opening (seen w f.less f.old_less g old)) (Ends t) → Then (with_store w.store t)) →
         (t : State) → give p (IsPossible p a) q e (opening w) (Ends t) → Surely (IsFollowed p ds a keeps Then w (with_store w.store t))
@@ -156,15 +152,11 @@ module _ (p : Program) (l : Laws p) (at : Place) (i : Name) (es : Exprs) (share 
     has_rises : (g old : Heap) → Under p ds w (seen w f.less f.old_less g old) → Rises (λ n. guard at (has_instance (seen w f.less f.old_less g old) x.0 x.1)) (λ n. guard at (has_instance w x.0 x.1))
     has_rises g old u = rises_always (◌≡◌ {A = Unit {0}}) (guard at (has_instance (seen w f.less f.old_less g old) x.0 x.1)) (guard at (has_instance w x.0 x.1)) (λ v e. (v, refl, ap (guard at) (more (guarded at (has_instance (seen w f.less f.old_less g old) x.0 x.1) v e))))
       where
-        both : {y z : Bool} → y ≡ true → z ≡ true → (y && z) ≡ true
-        both {y = true} e f = f
-        both {y = false} e f = e
-
         more : has_instance (seen w f.less f.old_less g old) x.0 x.1 ≡ true → has_instance w x.0 x.1 ≡ true
         more h =
             let k = and_parts _ _ h in
             let there : Le x.1 (amount w.holdings (Folded x.0)) = le-trans (record { holds = k.1 }) (fewer_less p (good_bodies p l.typed) l.kept f (Folded x.0) (instance_rigid p Any x.0 (tt, (d, named, no_perm p l.typed x.0.predicate d named, types)))) in
-            both k.0 there.holds
+            and_from _ _ k.0 there.holds
 
     -- where the instance is there beneath too
     with_instance : (o : Outcome) → Follows p ds a keeps (λ s. At s × Eventually (λ n. guard at (has_instance s x.0 x.1) ≡ Ok tt)) w →

@@ -1,6 +1,7 @@
 -- What fits with less fits with more, with the same value, and what is taken from less is taken from more: by induction on the fuel.
 use Rattle.std.proofs.Common.{arith, ◌≡◌, ◌≤◌, ◌+◌, ℕ, zero, suc, ◌⊎◌, inl, inr, List, [], ◌∷◌, ◌++◌, Option, Some, None, refl, sym, ◌∙◌, ap, subst}
 use Rattle.std.specs.Prelude.{Ok, Err}
+use Rattle.std.proofs.lemmas.Bool.{and_parts}
 use Rattle.vx_frac.specs.Fractions.{full, minus}
 use Rattle.vx_ast.specs.Syntax.{Name, Program, Predicate, Function, function_named, joined}
 use Rattle.vx_meaning.specs.Values.{Value}
@@ -10,7 +11,6 @@ use Rattle.vx_meaning.specs.Evaluate.{applications, value, value_by}
 use Rattle.vx_meaning.specs.Fits.{Checked, deeper, Deeper, fit_all, fit_by, take, take_by, application, Eventually}
 use Rattle.vx_types.specs.Typing.{Scope, HaveTypes}
 use Rattle.vx_types.specs.Premises.{IsTypedProgram}
-use Rattle.vx_terms.proofs.Same.{and_parts}
 use Rattle.vx_amounts.proofs.Amounts.{Le, Positive, positive-le}
 use Rattle.vx_elements.proofs.Scopes.{joined_typed}
 use Rattle.vx_sound_preds.proofs.Holding.{TypedAll}

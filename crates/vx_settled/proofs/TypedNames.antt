@@ -1,7 +1,7 @@
 -- What names stand for in a written program, they stand for when it is settled.
 use Rattle.std.proofs.Common.{◌≡◌, ◌∙◌, ◌++◌, ◌&&◌, ◌||◌, Bool, true, false, List, [], ◌∷◌, Option, Some, map, refl, sym, ap, ap₂, subst, eq-eqb}
 use Rattle.std.specs.Prelude.{⊤, nat_eq, if◌then◌else◌}
-use Rattle.std.proofs.lemmas.Bool.{and_parts, and_from, and_right, or_left, or_right, eqb-true, false_from_ne_true, both_ways}
+use Rattle.std.proofs.lemmas.Bool.{and_parts, and_from, and_right, or_left, or_right, eqb-true, false_from_ne_true, both_ways, or_from}
 use Rattle.vx_ast.specs.declared.ValueType.{ValueType}
 use Rattle.vx_ast.specs.Mentions.{is_among}
 use Rattle.vx_ast.specs.Written as written
@@ -184,17 +184,13 @@ fields_known names before (m ∷ ms) new =
     go true k h = (((k refl).0, ap field_in (first_named names m ms m.name.name (same_refl m.name.name)) ∙ (k refl).1), h)
     go false k h = h
 
-neither : (a b : Bool) → a ≡ false → b ≡ false → (a || b) ≡ false
-neither true b e f = (cc)
-neither false b e f = f
-
 -- a name of no member is that of no field
 unlisted : (x : Name) (ms : List written.Member) → Absent x ms → is_among x (fields_of ms) ≡ false
 unlisted x [] away = refl
 unlisted x (m ∷ ms) away = go (is_field m.kind) (unlisted x ms away.1)
   where
     go : (b : Bool) → is_among x (fields_of ms) ≡ false → is_among x (if b then m.name.name ∷ fields_of ms else fields_of ms) ≡ false
-    go true h = neither (same_name x m.name.name) (is_among x (fields_of ms)) away.0 h
+    go true h = or_from (same_name x m.name.name) (is_among x (fields_of ms)) away.0 h
     go false h = h
 
 fields_distinct : (before : List Name) (ms : List written.Member) → AreNew before (map (λ m. m.name) ms) → AreDistinct (fields_of ms)
@@ -211,7 +207,7 @@ fields_distinct before (m ∷ ms) new =
 unnamed : (x : Name) (before : List Name) (fs : List written.Placed) → is_among x before ≡ true → AreNew before fs → is_among x (map (λ f. f.name) fs) ≡ false
 unnamed x before [] h new = refl
 unnamed x before (f ∷ fs) h new =
-    neither (same_name x f.name) (is_among x (map (λ f. f.name) fs))
+    or_from (same_name x f.name) (is_among x (map (λ f. f.name) fs))
     (false_from_ne_true (same_name x f.name) (λ e. both_ways (is_among f.name before) new.0 (subst (λ y. is_among y before ≡ true) (same_is x f.name e) h)))
     (unnamed x (before ++ f.name ∷ []) fs (among_more x before (f.name ∷ []) h) new.1)
 

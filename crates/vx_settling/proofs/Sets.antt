@@ -8,6 +8,7 @@ use Rattle.std.specs.List.{list_any}
 use Rattle.std.specs.String.{string_eq}
 use Rattle.std.specs.declared.alloc.Global.{Global}
 use Rattle.std.specs.declared.string.String.{String}
+use Rattle.std.proofs.lemmas.Bool.{and_parts}
 use Rattle.vx_ast.specs.Resolve.{has_member}
 use Rattle.vx_ast.specs.Syntax.{Name, same_name}
 use Rattle.vx_ast.specs.Written.{Kind, Member, Program}
@@ -40,11 +41,7 @@ none_left false = refl
 
 same_is : (x y : Name) → same_name x y ≡ true → x ≡ y
 same_is [] [] e = refl
-same_is (a ∷ x) (b ∷ y) e = let q = parts _ _ e in ap₂ (λ z zs. z ∷ zs) (eqb-true a b q.0) (same_is x y q.1)
-  where
-    parts : (a b : Bool) → (a && b) ≡ true → (a ≡ true) × (b ≡ true)
-    parts true b e = (refl, e)
-    parts false b e = absurd (true≢false (sym e))
+same_is (a ∷ x) (b ∷ y) e = let q = and_parts _ _ e in ap₂ (λ z zs. z ∷ zs) (eqb-true a b q.0) (same_is x y q.1)
 same_is [] (b ∷ y) e = absurd (true≢false (sym e))
 same_is (a ∷ x) [] e = absurd (true≢false (sym e))
 

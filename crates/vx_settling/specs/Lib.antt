@@ -1,2 +1,5 @@
 pub mod Parts
 pub mod Names
+pub mod Mentioned
+pub mod Tables
+pub mod Found

@@ -3,10 +3,14 @@
 
 mod assertions;
 mod clauses;
+mod edges;
 mod expr;
 mod functions;
+mod groups;
 mod members;
+mod mentions;
 mod names;
 mod stmt;
+mod table;
 
 pub use members::settle;

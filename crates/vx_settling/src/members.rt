@@ -15,12 +15,12 @@ use crate::assertions::assertion;
 use crate::clauses::clauses;
 use crate::expr::shared;
 use crate::functions::function;
+use crate::groups::groups_of;
 use crate::names::{Names, all_names};
 use crate::stmt::block;
 use std::alloc::{AllocError, Global};
 use std::rc::Rc;
 use vx_ast::{Declaration, Expr, Member, MemberKind, Method, Place, Predicate, Program};
-use vx_groups::groups_of;
 use vx_resolved::{Assertion, Block, Settled};
 
 // A variable, settled.

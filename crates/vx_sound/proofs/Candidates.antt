@@ -1,5 +1,6 @@
 -- What a cleared search through the candidates leads to: the first chunk that is as wanted, or what follows where none is.
 use Rattle.std.proofs.Common.{◌≡◌, ℕ, ◌≤◌, Bool, true, false, ◌⊎◌, inl, inr, List, [], ◌∷◌, Some, refl, sym, ◌∙◌, ap, ap₂, subst, true≢false, cond}
+use Rattle.std.proofs.lemmas.Option.{same_Some}
 use Rattle.vx_frac.specs.Fractions.{none}
 use Rattle.vx_ast.specs.declared.Place.{Place}
 use Rattle.vx_ast.specs.Syntax.{Name, Declaration, Program, Predicate, predicate_named}
@@ -232,9 +233,6 @@ module _ (means : Meaning) (world : World) where
       pub good : Good means n i (equal_arguments d.arguments key.arguments) BoolSort
       pub told : IsTrueIn i (equal_arguments d.arguments key.arguments) → resource_of i d ≡ r
 
-    some_same : {A : Type 0} (a b : A) → Some a ≡ Some b → a ≡ b
-    some_same a b e = cc
-
     same_key : {heap : run.Heap} {key : rules.Chunk} {r : run.Resource} {b : Sort} → Keys n i key r b → (d : rules.Chunk) → d.is_field ≡ key.is_field → d.resource ≡ key.resource → ChunkStands means world n i heap d → SameKey d key r
     same_key (of_field f r k g e) d kind resource st =
         let o = st.field kind in
@@ -247,7 +245,7 @@ module _ (means : Meaning) (world : World) where
         }
     same_key (of_instance x ts vs k) d kind resource st =
         let o = st.instance kind in
-        let same : o.predicate ≡ k.predicate = some_same o.predicate k.predicate (sym o.named ∙ ap (predicate_named p) resource ∙ k.named) in
+        let same : o.predicate ≡ k.predicate = same_Some o.predicate k.predicate (sym o.named ∙ ap (predicate_named p) resource ∙ k.named) in
         let mine = subst (λ (q : Predicate). TermsStand means world n i q.parameters d.arguments (values_of i d.arguments)) same o.each in
         let r = equal_all k.predicate.parameters d.arguments ts (values_of i d.arguments) vs mine k.each in
         record {

@@ -1,5 +1,6 @@
 -- What taking, putting and writing do to the chunks, and which facts then hold.
 use Rattle.std.proofs.Common.{◌≡◌, ℕ, Bool, true, false, cond, ◌&&◌, ◌||◌, inl, inr, List, [], ◌∷◌, ◌++◌, slice_set, refl, sym, ap, ap₂, subst, eq-eqb, eqb-true, true≢false}
+use Rattle.std.proofs.lemmas.Bool.{and_parts}
 use Rattle.vx_frac.specs.Fractions.{Fraction, none, is_positive, sum, minus, difference}
 use Rattle.vx_ast.specs.Syntax.{Name, same_name, Program}
 use Rattle.vx_meaning.specs.States as run
@@ -9,7 +10,7 @@ use Rattle.vx_terms.specs.Sorts.{RealSort}
 use Rattle.vx_terms.specs.Terms.{Term, same}
 use Rattle.vx_terms.specs.Build.{subtract, zero_amount}
 use Rattle.vx_terms.specs.Interpretations.{Each, Interpretation, as_fraction, value}
-use Rattle.vx_terms.proofs.Same.{and_parts, int_same}
+use Rattle.vx_terms.proofs.Same.{int_same}
 use Rattle.vx_rules.specs.States as rules
 use Rattle.vx_rules.specs.Chunks.{Candidate, without, reduced}
 use Rattle.vx_rules.specs.Rules.{leads_inside}

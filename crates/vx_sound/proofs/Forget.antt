@@ -1,6 +1,7 @@
 -- Fresh values for the variables that a loop assigns.
 use Rattle.std.proofs.Common.{◌≡◌, ℕ, suc, ◌≤◌, Bool, true, false, not, cond, ◌&&◌, ◌||◌, ◌⊎◌, inl, inr, List, [], ◌∷◌, Some, None, refl, sym, ◌∙◌, ap, ap₂, subst, le_trans, le_of_lt, lt-suc_self, true≢false}
 use Rattle.std.specs.Prelude.{IsTrue}
+use Rattle.std.proofs.lemmas.Option.{same_Some}
 use Rattle.vx_ast.specs.declared.ValueType.{ValueType}
 use Rattle.vx_ast.specs.Syntax.{Name, same_name, Program}
 use Rattle.vx_ast.specs.Mentions.{is_among}
@@ -106,9 +107,6 @@ skip_absent done xs x (a ∷ w) (b ∷ y) d h = let e = elsewhere x a w d in (h.
 skip_absent done xs x [] (b ∷ y) d h = absurd h
 skip_absent done xs x (a ∷ w) [] d h = absurd h
 
-some_is : {A : Type 0} (a b : A) → Some a ≡ Some b → a ≡ b
-some_is a b e = cc
-
 -- one variable gets the value that it is to have
 assigned : (done xs : List Name) (x : Name) (v : Value) (w y : Store) → NamesOnce w → lookup x y ≡ Some v → Toward done (x ∷ xs) w y → Toward (x ∷ done) xs (run.assign x v w) y
 assigned done xs x v [] [] once l h = cc
@@ -123,7 +121,7 @@ assigned done xs x v (a ∷ w) (b ∷ y) once l h =
         Toward (x ∷ done) xs (cond q ((x, v) ∷ w) (a ∷ run.assign x v w)) (b ∷ y)
     go true e m next =
         let is : x ≡ a.0 = name_is x a.0 e in
-        let same : b.1 ≡ v = some_is b.1 v m in
+        let same : b.1 ≡ v = same_Some b.1 v m in
         (is ∙ h.0, ap type_of (sym same), inr (sym same), done_more done xs x w y (subst (λ z. lookup z w ≡ None) (sym is) once.0) h.3)
     go false e m next = (h.0, h.1, entry (differs_back x a.0 (same_name a.0 x) refl e) h.2, next m)
 assigned done xs x v [] (b ∷ y) once l h = absurd h

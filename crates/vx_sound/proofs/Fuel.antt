@@ -1,6 +1,7 @@
 -- More fuel leaves each value as it is, so there is one at most.
 use Rattle.std.proofs.Common.{◌≡◌, ℕ, zero, suc, ◌+◌, Bool, true, false, cond, List, ◌∷◌, Option, Some, None, refl, sym, ◌∙◌, ap, subst, arith}
 use Rattle.std.specs.Prelude.{option_and_then}
+use Rattle.std.proofs.lemmas.Option.{same_Some}
 use Rattle.vx_ast.specs.Syntax.{Name, Program, function_named, Connective, Expr, Number, Truth, Null, Part, Variable, Not, Operate, Divide, Connect, Choose, Read, Old, Apply, Unfolding, Exprs, NoMore, More}
 use Rattle.vx_meaning.specs.Values.{Value, IntValue, BoolValue, RefValue, PermValue, negated, operated, divided, needs_right, without_right}
 use Rattle.vx_meaning.specs.States.{State, at_old, bind, with_store}
@@ -21,9 +22,6 @@ came None f b e = absurd (nothing b e)
 
 step : {A B : Type 0} (f : A → Option B) {o : Option A} (a : A) → o ≡ Some a → option_and_then f o ≡ f a
 step f a e = ap (option_and_then f) e
-
-some_is : {A : Type 0} (a b : A) → Some a ≡ Some b → a ≡ b
-some_is a b e = cc
 
 -- where the first has a value, the second has it too
 abbrev pub Covers : Applications → Applications → Type 0
@@ -106,11 +104,11 @@ module _ (p : Program) where
   pub one_value : (s : State) (e : Expr) (v w : Value) → HasValue p s e v → HasValue p s e w → v ≡ w
   one_value s e v w a b =
       let z : b.0 + a.0 ≡ a.0 + b.0 = omega arith in
-      some_is v w (sym (value_more p (applications p a.0) (applications p (b.0 + a.0)) (applications_later b.0 a.0) s e v a.1) ∙ ap (λ (k : ℕ). value p (applications p k) s e) z
+      same_Some v w (sym (value_more p (applications p a.0) (applications p (b.0 + a.0)) (applications_later b.0 a.0) s e v a.1) ∙ ap (λ (k : ℕ). value p (applications p k) s e) z
       ∙ value_more p (applications p b.0) (applications p (a.0 + b.0)) (applications_later a.0 b.0) s e w b.1)
 
   pub all_one_value : (s : State) (es : Exprs) (vs ws : List Value) (n m : ℕ) → values p (applications p n) s es ≡ Some vs → values p (applications p m) s es ≡ Some ws → vs ≡ ws
   all_one_value s es vs ws n m e f =
       let z : m + n ≡ n + m = omega arith in
-      some_is vs ws (sym (values_more p (applications p n) (applications p (m + n)) (applications_later m n) s es vs e) ∙ ap (λ (k : ℕ). values p (applications p k) s es) z
+      same_Some vs ws (sym (values_more p (applications p n) (applications p (m + n)) (applications_later m n) s es vs e) ∙ ap (λ (k : ℕ). values p (applications p k) s es) z
       ∙ values_more p (applications p m) (applications p (n + m)) (applications_later n m) s es ws f)

@@ -1,5 +1,6 @@
 -- Writing and putting chunks, the facts that then hold, and what a change of the heap leaves.
 use Rattle.std.proofs.Common.{◌≡◌, ℕ, Bool, true, false, not, cond, ◌&&◌, ◌||◌, ◌⊎◌, inl, inr, List, [], ◌∷◌, ◌++◌, slice_set, refl, sym, ◌∙◌, ap, ap₂, subst, true≢false}
+use Rattle.std.proofs.lemmas.Bool.{and_from, or_cases, not-true, and_parts}
 use Rattle.vx_frac.specs.Fractions.{Fraction, none, full, sum}
 use Rattle.vx_ast.specs.declared.ValueType.{ValueType}
 use Rattle.vx_ast.specs.declared.ValueType.TheVariants as type
@@ -12,7 +13,7 @@ use Rattle.vx_terms.specs.Sorts.{BoolSort, RealSort, RefSort}
 use Rattle.vx_terms.specs.Terms.{Term, same}
 use Rattle.vx_terms.specs.Build.{equals, less, less_equal, add, null, zero_amount, whole_amount}
 use Rattle.vx_terms.specs.Interpretations.{Each, Interpretation, Element, TreeElement, as_bool, as_fraction, value, IsTrueIn}
-use Rattle.vx_terms.proofs.Same.{term_is, and_parts, bool_is}
+use Rattle.vx_terms.proofs.Same.{term_is, bool_is}
 use Rattle.vx_terms.proofs.Build.{ite_value}
 use Rattle.vx_rules.specs.States as rules
 use Rattle.vx_rules.specs.Chunks.{Candidate, is_kin, same_arguments, chosen, candidates, field_key, first_argument, sum_at, merged, agree, is_not_null, at_most_whole, one_value, with_other, apart, at_most_three, whole_fact, bounding, field_facts, instance_facts, put_over, put_facts, put}
@@ -43,22 +44,10 @@ append_nil : {A : Type 0} (xs : List A) → xs ++ [] ≡ xs
 append_nil [] = refl
 append_nil (x ∷ xs) = ap (λ ys. x ∷ ys) (append_nil xs)
 
-both_are : {a b : Bool} → a ≡ true → b ≡ true → (a && b) ≡ true
-both_are {a = true} e f = f
-both_are {a = false} e f = e
-
-either : (a b : Bool) → (a || b) ≡ true → (a ≡ true) ⊎ (b ≡ true)
-either true b e = inl refl
-either false b e = inr e
-
-not_false : (b : Bool) → not b ≡ true → b ≡ false
-not_false true e = sym e
-not_false false e = refl
-
 -- what is read where it was written, and elsewhere
 pub read_written : (p : Program) (l : run.Location) (v : Value) (heap : run.Heap) → type_of v ≡ run.field_type p l.field → run.value_at p ((l, v) ∷ heap) l ≡ v
 read_written p l v heap e =
-    ap (λ b. cond b v (run.find_value (run.field_type p l.field) heap l)) (both_are (location_same l) (subst (λ t. same_type (type_of v) t ≡ true) e (type_same (type_of v))))
+    ap (λ b. cond b v (run.find_value (run.field_type p l.field) heap l)) (and_from _ _ (location_same l) (subst (λ t. same_type (type_of v) t ≡ true) e (type_same (type_of v))))
 
 pub read_elsewhere : (p : Program) (l d : run.Location) (v : Value) (heap : run.Heap) → run.same_location d l ≡ false → run.value_at p ((l, v) ∷ heap) d ≡ run.value_at p heap d
 read_elsewhere p l d v heap e =
@@ -262,7 +251,7 @@ module _ (means : Meaning) (world : World) where
             let x : whole.resource ≡ d.resource = name_is whole.resource d.resource kin.1 in
             each_append Fact (with_other summed bounded whole d) (apart summed bounded whole ds)
             (each_append Fact (bounding bounded (at_most_whole whole d ∷ [])) (cond summed (one_value whole d ∷ []) [])
-            (bounding_facts bounded (at_most_whole whole d ∷ []) (λ on. ((good_implies means (ge f) gb, if_true means (ge f) gb (holds on f x (not_false _ q.1))), tt)))
+            (bounding_facts bounded (at_most_whole whole d ∷ []) (λ on. ((good_implies means (ge f) gb, if_true means (ge f) gb (holds on f x (not-true _ q.1))), tt)))
             (of_values summed f x)) r
         go false e r = r
 
@@ -306,8 +295,8 @@ module _ (means : Meaning) (world : World) where
           sign = le-trans (none-none m.sign k.sign) (add_is means m.amount k.amount).back;
           content = good_ite means (good_positive means m.amount) m.content content';
           content_is = λ h. subst (IsThere p heap (resource_of i c)) (sym (ite_value i (less zero_amount c.amount) c.value new.value)) (go h (as_bool (value i (less zero_amount c.amount))) refl);
-          is_root = λ f g. elim (either c.root new.root g) [ inl h ↦ m.is_root f h | inr h ↦ subst (IsRoot world.marks) instances (k.is_root (sym kind ∙ f) h) ];
-          is_inner = λ f g. elim (either c.inner new.inner g) [ inl h ↦ m.is_inner f h | inr h ↦ subst (IsInner p world.marks heap) instances (k.is_inner (sym kind ∙ f) h) ];
+          is_root = λ f g. elim (or_cases c.root new.root g) [ inl h ↦ m.is_root f h | inr h ↦ subst (IsRoot world.marks) instances (k.is_root (sym kind ∙ f) h) ];
+          is_inner = λ f g. elim (or_cases c.inner new.inner g) [ inl h ↦ m.is_inner f h | inr h ↦ subst (IsInner p world.marks heap) instances (k.is_inner (sym kind ∙ f) h) ];
         }
           where
             instances : instance_of i new ≡ instance_of i c

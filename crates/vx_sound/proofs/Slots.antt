@@ -1,9 +1,10 @@
 -- Candidates stand at their numbers, which differ; so each keeps its place where another is written.
 use Rattle.std.proofs.Common.{◌≡◌, ℕ, zero, suc, ◌≤◌, Bool, true, false, cond, ◌&&◌, List, [], ◌∷◌, ◌++◌, length, drop, slice_set, slice_get, Option, Some, None, refl, sym, ◌∙◌, ap, ap₂, subst, append_assoc, true≢false, le_refl, arith}
 use Rattle.std.proofs.Math.Seq.{take-append_seam, set-append_seam}
+use Rattle.std.proofs.lemmas.Bool.{and_parts}
 use Rattle.vx_terms.specs.Terms.{same_bool}
 use Rattle.vx_terms.specs.Interpretations.{Each}
-use Rattle.vx_terms.proofs.Same.{and_parts, bool_is}
+use Rattle.vx_terms.proofs.Same.{bool_is}
 use Rattle.vx_rules.specs.States.{Chunk, Heap}
 use Rattle.vx_rules.specs.Chunks.{Candidate, is_kin, same_arguments, chosen, candidates, without}
 use Rattle.vx_elements.proofs.Lists.{each_append, each_map}

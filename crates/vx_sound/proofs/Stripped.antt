@@ -1,6 +1,7 @@
 -- Values, and what is evaluated with an expression, don't look at what is held; and what fits has its value.
 use Rattle.std.proofs.Common.{◌≡◌, ℕ, zero, suc, true, false, cond, List, ◌∷◌, [], ◌++◌, Option, Some, None, refl, sym, ◌∙◌, ap, ap₂, pos, Bool}
 use Rattle.std.specs.Prelude.{Ok, Err, option_and_then}
+use Rattle.std.proofs.lemmas.Option.{same_Some}
 use Rattle.vx_ast.specs.declared.Place.{Place}
 use Rattle.vx_ast.specs.Syntax.{Name, Program, Predicate, predicate_named, Function, function_named, Connective, joined, Expr, Number, Truth, Null, Part, Variable, Not, Operate, Divide, Connect, Choose, Read, Old, Apply, Unfolding, Exprs, NoMore, More, Assertion, Pure, Points, Both, Implied, Chosen, place_of}
 use Rattle.vx_ast.specs.Syntax as syntax
@@ -105,9 +106,6 @@ ok_is a b e = cc
 none_some : {A : Type 0} (a : A) → ◌≡◌ {A = Option A} None (Some a) → ⊥
 none_some a e = cc
 
-some_is : {A : Type 0} (a b : A) → Some a ≡ Some b → a ≡ b
-some_is a b e = cc
-
 undo : {A B : Type 0} (x : Checked A) (f : A → Checked B) (b : B) → (x >>= f) ≡ Ok b → Before x f b
 undo (Ok a) f b e = record { it = a; is = refl; then = e }
 undo (Err at) f b e = absurd (err_ok at b e)
@@ -117,7 +115,7 @@ not_failed at None a e = absurd (err_ok at a e)
 not_failed at (Some b) a e = ap Some (ok_is b a e)
 
 from_option : {A : Type 0} (x : Checked A) (a : A) → to_option x ≡ Some a → x ≡ Ok a
-from_option (Ok b) a e = ap Ok (some_is b a e)
+from_option (Ok b) a e = ap Ok (same_Some b a e)
 from_option (Err at) a e = absurd (none_some a e)
 
 step : {A B : Type 0} (f : A → Option B) {o : Option A} (a : A) → o ≡ Some a → option_and_then f o ≡ f a
@@ -141,7 +139,7 @@ either_worth at (RefValue r) w x y z u h k e = absurd (err_ok at w e)
 either_worth at (PermValue q) w x y z u h k e = absurd (err_ok at w e)
 
 read_worth : (p : Program) (s : State) (f : Name) (r v : Value) (l : Location) → location_of f r ≡ Some l → readable p s l ≡ Some v → read p s f r ≡ Some v
-read_worth p s f (RefValue r) v l e h = go l (some_is _ l e) (is_positive (amount s.holdings (At l))) h
+read_worth p s f (RefValue r) v l e h = go l (same_Some _ l e) (is_positive (amount s.holdings (At l))) h
   where
     go : (l : Location) → (let m : Location = record { receiver = r; field = f } in m) ≡ l → (b : Bool) → cond b (Some (value_at p s.heap l)) None ≡ Some v → Some (value_at p s.heap record { receiver = r; field = f }) ≡ Some v
     go l m true h = ap (λ (l : Location). Some (value_at p s.heap l)) m ∙ h

@@ -1,5 +1,6 @@
 -- What a sum over the chunks of a field is worth: no more than what the chunks have at the location.
 use Rattle.std.proofs.Common.{◌≡◌, ℕ, suc, Bool, true, false, cond, ◌&&◌, List, [], ◌∷◌, ◌++◌, refl, sym, ◌∙◌, ap, ap₂, subst}
+use Rattle.std.proofs.lemmas.Bool.{and_parts}
 use Rattle.vx_frac.specs.Fractions.{Fraction, none, sum}
 use Rattle.vx_ast.specs.Syntax.{Name, same_name, Program}
 use Rattle.vx_meaning.specs.Values.{RefValue}
@@ -8,7 +9,7 @@ use Rattle.vx_terms.specs.Sorts.{RealSort, RefSort}
 use Rattle.vx_terms.specs.Terms.{Term, same_bool}
 use Rattle.vx_terms.specs.Build.{equals, add, zero_amount}
 use Rattle.vx_terms.specs.Interpretations.{Each, Interpretation, as_bool, as_fraction, value}
-use Rattle.vx_terms.proofs.Same.{and_parts, bool_is}
+use Rattle.vx_terms.proofs.Same.{bool_is}
 use Rattle.vx_terms.proofs.Build.{ite_value}
 use Rattle.vx_rules.specs.States as rules
 use Rattle.vx_rules.specs.Chunks.{Candidate, is_kin, same_arguments, chosen, candidates, first_argument, field_key, part_at, sum_onto, sum_at}

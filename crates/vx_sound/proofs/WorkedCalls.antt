@@ -1,5 +1,6 @@
 -- The law at work over a call, the failing run of a caller, and a contract that the law has to leave out.
 use Rattle.std.proofs.Common.{◌≡◌, ◌<◌, ℕ, zero, suc, Bool, true, false, not, [], ◌∷◌, Option, Some, None, slice_get, refl, sym, subst, true≢false, arith}
+use Rattle.std.proofs.lemmas.Option.{same_Some}
 use Rattle.vx_frac.specs.Fractions.{lowest}
 use Rattle.vx_ast.specs.declared.ValueType.TheVariants.{Int}
 use Rattle.vx_ast.specs.Syntax.{Name, same_name, Member, Kind, IsField, IsMethod, Predicate, Function, Method, Equal, NoMore, Call, Done, Then, member_named, predicate_in, function_in, method_in, predicate_named, function_named, method_named}
@@ -51,9 +52,6 @@ by_name P at_f at_c at_m at_none y = go (same_name y f) (same_name y c) (same_na
     go false false true = at_m
     go false false false = at_none
 
-some_is : {A : Type 0} (a b : A) → Some a ≡ Some b → a ≡ b
-some_is a b e = cc
-
 nothing : {A R : Type 0} (a : A) → (let o : Option A = None in o) ≡ Some a → R
 nothing a e = cc
 
@@ -65,12 +63,12 @@ no_function = by_name (λ o. (g : Function) → function_in o ≡ Some g → ⊥
 
 typed_method : (y : Name) (n : Method) → method_named calls y ≡ Some n → IsTypedMethod calls n
 typed_method = by_name (λ o. (n : Method) → method_in o ≡ Some n → IsTypedMethod calls n) (λ n e. nothing n e)
-    (λ n e. subst (IsTypedMethod calls) (some_is fills n e) fills_typed) (λ n e. subst (IsTypedMethod calls) (some_is uses n e) uses_typed) (λ n e. nothing n e)
+    (λ n e. subst (IsTypedMethod calls) (same_Some fills n e) fills_typed) (λ n e. subst (IsTypedMethod calls) (same_Some uses n e) uses_typed) (λ n e. nothing n e)
 
 named : (n : ℕ) (k : Member) → slice_get calls n ≡ Some k → member_named calls k.name ≡ Some k.kind
-named zero k e = subst (λ (k : Member). member_named calls k.name ≡ Some k.kind) (some_is (record { name = f; kind = IsField Int }) k e) refl
-named (suc zero) k e = subst (λ (k : Member). member_named calls k.name ≡ Some k.kind) (some_is (record { name = c; kind = IsMethod fills }) k e) refl
-named (suc (suc zero)) k e = subst (λ (k : Member). member_named calls k.name ≡ Some k.kind) (some_is (record { name = m; kind = IsMethod uses }) k e) refl
+named zero k e = subst (λ (k : Member). member_named calls k.name ≡ Some k.kind) (same_Some (record { name = f; kind = IsField Int }) k e) refl
+named (suc zero) k e = subst (λ (k : Member). member_named calls k.name ≡ Some k.kind) (same_Some (record { name = c; kind = IsMethod fills }) k e) refl
+named (suc (suc zero)) k e = subst (λ (k : Member). member_named calls k.name ≡ Some k.kind) (same_Some (record { name = m; kind = IsMethod uses }) k e) refl
 named (suc (suc (suc n))) k e = cc
 
 pub calls_typed : IsTypedProgram calls
@@ -110,7 +108,7 @@ alone y (further {y = z} k h) = absurd (subst (λ (w : Name). Stands y (mentions
 closed : (y : Name) (k : Kind) → InClosure calls m y → member_named calls y ≡ Some k → IsCallingMember k × Passes calls y k (Unsat ∷ [])
 closed y k h e =
     let same : y ≡ m = alone y h in
-    let kind : IsMethod uses ≡ k = some_is (IsMethod uses) k (subst (λ (z : Name). member_named calls z ≡ Some k) same e) in
+    let kind : IsMethod uses ≡ k = same_Some (IsMethod uses) k (subst (λ (z : Name). member_named calls z ≡ Some k) same e) in
     subst (λ (k : Kind). IsCallingMember k × Passes calls y k (Unsat ∷ [])) kind (uses_calling, subst (λ (z : Name). Passes calls z (IsMethod uses) (Unsat ∷ [])) (sym same) uses_passes)
 
 pub uses_never_fail : Fails calls m (IsMethod uses) → ⊥

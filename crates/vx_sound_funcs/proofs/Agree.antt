@@ -1,5 +1,6 @@
 -- Applications of a function at the same arguments, with the same asking tree of its precondition, have values that look the same.
 use Rattle.std.proofs.Common.{◌≡◌, ℕ, zero, suc, ◌≤◌, Bool, true, false, cond, List, [], ◌∷◌, Some, refl, sym, ◌∙◌, ap, ap₂, subst, arith}
+use Rattle.std.proofs.lemmas.Option.{same_Some}
 use Rattle.vx_frac.specs.Fractions.{Fraction, none, full, sum, product}
 use Rattle.vx_ast.specs.Syntax.{Name, Program, Predicate, Function, function_named}
 use Rattle.vx_meaning.specs.Values.{Value}
@@ -16,7 +17,7 @@ use Rattle.vx_amounts.proofs.Amounts.{Le, Positive, Same, same-refl, same-trans,
 use Rattle.vx_amounts.proofs.Products.{product-full, product-none}
 use Rattle.vx_sound_preds.specs.Bodies.{AreRigid, GoodBodies}
 use Rattle.vx_sound_preds.specs.Covered.{Covered, IsProper, TypedInstances, IsStocked}
-use Rattle.vx_sound_preds.proofs.Fitting.{step, some_is}
+use Rattle.vx_sound_preds.proofs.Fitting.{step}
 use Rattle.vx_sound_preds.proofs.Looks.{Sees}
 use Rattle.vx_sound_preds.proofs.Totals.{weigh}
 use Rattle.vx_sound_preds.proofs.Grouped.{IsSingle}
@@ -99,7 +100,7 @@ module _ (p : Program) (x : Name) (good : GoodBodies p) (functions : GoodFunctio
     proper : (i : Instance) → Positive (amount s.holdings (Folded i)) → IsProper p x s.heap i
     proper i k =
         let h = held_typed p (InClosure p x) s.holdings (typed_all p x typed s.holdings st.instances) i k in
-        held_proper p x good s co.supported stocked i k h.0 (λ d e. subst (λ (d : Predicate). run.HaveTypes d.parameters i.arguments) (some_is h.1.0 d (sym h.1.1 ∙ e)) h.1.3)
+        held_proper p x good s co.supported stocked i k h.0 (λ d e. subst (λ (d : Predicate). run.HaveTypes d.parameters i.arguments) (same_Some h.1.0 d (sym h.1.1 ∙ e)) h.1.3)
 
   module _ (f : Name) (g : Function) (named : function_named p f ≡ Some g) (vs : List Value) (ri : AreRigid vs) where
     -- where the function starts just its precondition is held, of instances that the caller holds

@@ -1,6 +1,7 @@
 -- The tree of a body tells what the body names, and the values where it gives something.
 use Rattle.std.proofs.Common.{◌≡◌, ℕ, Bool, true, false, cond, List, [], ◌∷◌, ◌++◌, Option, Some, None, refl, sym, ◌∙◌, ap, subst}
 use Rattle.std.specs.Prelude.{Ok, option_and_then}
+use Rattle.std.proofs.lemmas.Option.{same_Some}
 use Rattle.vx_ast.specs.declared.Place.{Place}
 use Rattle.vx_frac.specs.Fractions.{Fraction, none, full, is_positive, sum, product}
 use Rattle.vx_ast.specs.Syntax.{Name, Program, Expr, Number, Truth, Null, Part, Variable, Not, Operate, Divide, Connect, Choose, Read, Old, Apply, Unfolding, Exprs, NoMore, More, Assertion, Pure, Points, Both, Implied, Chosen, place_of}
@@ -18,7 +19,7 @@ use Rattle.vx_amounts.proofs.Products.{product-none}
 use Rattle.vx_sound.specs.Snapshots.{leaf, location_leaf, assertion_tree}
 use Rattle.vx_sound.proofs.Chunks.{location_is}
 use Rattle.vx_sound_preds.specs.Bodies.{AreRigid, Rigid, IsPlain, ArePlain, IsPlainBody, GoodBodies}
-use Rattle.vx_sound_preds.proofs.Fitting.{undo, step, some_is, fit_framed, fit_all_framed}
+use Rattle.vx_sound_preds.proofs.Fitting.{undo, step, fit_framed, fit_all_framed}
 use Rattle.vx_sound_preds.proofs.Flats.{came}
 use Rattle.vx_sound_preds.proofs.Looks.{Sees}
 use Rattle.vx_sound_preds.proofs.Totals.{weigh, weigh_more, weight, total_weighs, weight_sign, same_is}
@@ -88,7 +89,7 @@ matches_within p good s t j q k m = record { store = m.store; heap = λ l h. go 
 leaf_told : (p : Program) (h g : Heap) (f : Name) (r : Value) (l : Location) (t : Tree) → location_of f r ≡ Some l → location_leaf p h f r ≡ Some t → location_leaf p g f r ≡ Some t → Likes (value_at p h l) (value_at p g l)
 leaf_told p h g f (RefValue r) l t at e k =
     let m : Location = record { receiver = r; field = f } in
-    subst (λ (l : Location). Likes (value_at p h l) (value_at p g l)) (some_is m l at) (likes (value_at p h m) (value_at p g m) (some_is (leaf (value_at p h m)) t e ∙ sym (some_is (leaf (value_at p g m)) t k)))
+    subst (λ (l : Location). Likes (value_at p h l) (value_at p g l)) (same_Some m l at) (likes (value_at p h m) (value_at p g m) (same_Some (leaf (value_at p h m)) t e ∙ sym (same_Some (leaf (value_at p g m)) t k)))
 leaf_told p h g f (IntValue r) l t at e k = cc
 leaf_told p h g f (BoolValue r) l t at e k = cc
 leaf_told p h g f (PermValue r) l t at e k = cc
@@ -121,14 +122,14 @@ module _ (f g : Instance → Option Tree) where
   append_trees ((Folded j, q) ∷ xs) ys a b = (a.0, append_trees xs ys a.1 b)
 
   no_trees : (es : Holdings) → Some [] ≡ Some es → SameTrees f g es
-  no_trees es e = subst (SameTrees f g) (some_is [] es e) tt
+  no_trees es e = subst (SameTrees f g) (same_Some [] es e) tt
 
   truth_trees : (b : Bool) (es : Holdings) → cond b (Some []) None ≡ Some es → SameTrees f g es
   truth_trees true es e = no_trees es e
   truth_trees false es e = cc
 
   location_trees : (x : Name) (r v : Value) (es : Holdings) → location_entry x r v ≡ Some es → SameTrees f g es
-  location_trees x (RefValue r) (PermValue q) es e = subst (SameTrees f g) (some_is ((At record { receiver = r; field = x }, q) ∷ []) es e) tt
+  location_trees x (RefValue r) (PermValue q) es e = subst (SameTrees f g) (same_Some ((At record { receiver = r; field = x }, q) ∷ []) es e) tt
   location_trees x (RefValue r) (IntValue q) es e = cc
   location_trees x (RefValue r) (BoolValue q) es e = cc
   location_trees x (RefValue r) (RefValue q) es e = cc
@@ -137,7 +138,7 @@ module _ (f g : Instance → Option Tree) where
   location_trees x (PermValue r) v es e = cc
 
   instance_trees : (i : Name) (vs : List Value) (v : Value) (es : Holdings) (t : Tree) → f (record { predicate = i; arguments = vs }) ≡ Some t → g (record { predicate = i; arguments = vs }) ≡ Some t → instance_entry i vs v ≡ Some es → SameTrees f g es
-  instance_trees i vs (PermValue q) es t a b e = subst (SameTrees f g) (some_is ((Folded record { predicate = i; arguments = vs }, q) ∷ []) es e) ((t, a, b), tt)
+  instance_trees i vs (PermValue q) es t a b e = subst (SameTrees f g) (same_Some ((Folded record { predicate = i; arguments = vs }, q) ∷ []) es e) ((t, a, b), tt)
   instance_trees i vs (IntValue q) es t a b e = cc
   instance_trees i vs (BoolValue q) es t a b e = cc
   instance_trees i vs (RefValue q) es t a b e = cc
@@ -145,7 +146,7 @@ module _ (f g : Instance → Option Tree) where
 -- Entries, and what is added by them
 
 truth_entries : (b : Bool) (es : Holdings) → cond b (Some []) None ≡ Some es → es ≡ []
-truth_entries true es e = sym (some_is [] es e)
+truth_entries true es e = sym (same_Some [] es e)
 truth_entries false es e = cc
 
 nothing_added : (q : Fraction) (hs es : Holdings) → es ≡ [] → hs ≡ added q es hs
@@ -291,10 +292,10 @@ module _ (p : Program) (good : GoodBodies p) (n : ℕ) where
         let l' = came (assertion_tree p f s b) (λ u. Some (Pair l.it u)) tree l.then in
         let r = came (assertion_tree p g t a) (λ q. option_and_then (λ z. Some (Pair q z)) (assertion_tree p g t b)) tree there in
         let r' = came (assertion_tree p g t b) (λ u. Some (Pair r.it u)) tree r.then in
-        let both = some_is (Pair l.it l'.it) tree l'.then ∙ sym (some_is (Pair r.it r'.it) tree r'.then) in
+        let both = same_Some (Pair l.it l'.it) tree l'.then ∙ sym (same_Some (Pair r.it r'.it) tree r'.then) in
         let one = told a s x.it t l.it y.it k.0 h mid x.is m (tell_earlier x.it u t later tell) l.is (r.is ∙ ap Some (sym (pair_first l.it l'.it r.it r'.it both))) y.is in
         let two = told b x.it u t l'.it z.it k.1 known hu x.then one.1.0 tell (tree_seen p Rigid s x.it sees f b k.1 ∙ l'.is) (r'.is ∙ ap Some (sym (pair_second l.it l'.it r.it r'.it both))) (entries_seen p Rigid s x.it sees b k.1 ∙ z.is) in
-        let is : y.it ++ z.it ≡ es = some_is (y.it ++ z.it) es z.then in (
+        let is : y.it ++ z.it ≡ es = same_Some (y.it ++ z.it) es z.then in (
           step (λ xs. option_and_then (λ ys. Some (xs ++ ys)) (entries p t b)) y.it one.0 ∙ step (λ ys. Some (y.it ++ ys)) z.it two.0 ∙ z.then,
           (
             two.1.0,
@@ -308,7 +309,7 @@ module _ (p : Program) (good : GoodBodies p) (n : ℕ) where
         let w = value_there s t c x.it h m k.0 x.is in
         let r = side_told {R = Matches p u t × SameTrees f g es × (u.holdings ≡ added full es s.holdings)} (place_of c) x.it w.it (add p (deeper p n) full a s) (Ok s) u (assertion_tree p f s a) (Some Empty) (assertion_tree p g t a) (Some Empty) tree (entries p s a) (Some []) (entries p t a) (Some []) es w.like
         (λ e i j o. told a s u t tree es k.1 h hu e m tell i j o)
-        (λ e i j o. (o, (subst (λ (u : State). Matches p u t) (ok_same s u e) m, no_trees f g es o, ap (λ (u : State). u.holdings) (sym (ok_same s u e)) ∙ nothing_added full s.holdings es (sym (some_is [] es o)))))
+        (λ e i j o. (o, (subst (λ (u : State). Matches p u t) (ok_same s u e) m, no_trees f g es o, ap (λ (u : State). u.holdings) (sym (ok_same s u e)) ∙ nothing_added full s.holdings es (sym (same_Some [] es o)))))
         x.then
         (sym (step (λ v. plain.choose v (assertion_tree p f s a) (Some Empty)) x.it v) ∙ here)
         (sym (step (λ v. plain.choose v (assertion_tree p g t a) (Some Empty)) w.it w.is) ∙ there)

@@ -1,6 +1,7 @@
 -- Two heaps that give an instance the same tree have like values where something is inside it, and the same inside it.
 use Rattle.std.proofs.Common.{◌≡◌, ℕ, zero, suc, ◌+◌, Bool, true, false, cond, [], ◌∷◌, ◌++◌, Option, Some, None, refl, sym, ◌∙◌, ap, subst, arith}
 use Rattle.std.specs.Prelude.{option_and_then, unwrap_or}
+use Rattle.std.proofs.lemmas.Option.{same_Some}
 use Rattle.vx_frac.specs.Fractions.{Fraction, none, full, is_positive, sum, product}
 use Rattle.vx_ast.specs.Syntax.{Program, Predicate, Assertion, predicate_named}
 use Rattle.vx_meaning.specs.States.{Heap, Holdings, Location, Instance, Resource, At, Folded, same_resource, amount, gained, scaled, bind, value_at}
@@ -12,7 +13,7 @@ use Rattle.vx_amounts.proofs.Amounts.{Positive, Same, same-trans, le-refl, le-tr
 use Rattle.vx_sound.specs.Snapshots.{assertion_tree, body_tree, tree_by, IsTree}
 use Rattle.vx_sound_preds.specs.Bodies.{AreRigid, GoodBodies}
 use Rattle.vx_sound_preds.specs.Covered.{AllGood, Covered}
-use Rattle.vx_sound_preds.proofs.Fitting.{step, some_is}
+use Rattle.vx_sound_preds.proofs.Fitting.{step}
 use Rattle.vx_sound_preds.proofs.Flats.{came, flat_single, tree_later}
 use Rattle.vx_sound_preds.proofs.Totals.{weigh, weigh_none, same_is, weight, total_weighs, weight_of_body}
 use Rattle.vx_sound_preds.proofs.Grouped.{AreSingle, resource_is}
@@ -149,7 +150,7 @@ module _ (p : Program) (good : GoodBodies p) (Good : Heap → Instance → Type 
           let c = covered.fits h i d a is body gd (suc n, x, e) in
           let of : entries p s a ≡ Some es = sym (ap (body_side i h d) body) ∙ en in
           let o = opened p h i d a is body (suc n, x, e) in
-          let one : o.entries_of ≡ es = some_is o.entries_of es (sym o.entries_are ∙ of) in
+          let one : o.entries_of ≡ es = same_Some o.entries_of es (sym o.entries_are ∙ of) in
           let adds = add_adds p full none-full (deeper p c.0) (all_open p good c.0) a s c.1 es (good.plain i.predicate d a is body) fine of (subst (AreEntries p h) one o.can) c.2 in
           let singles = single_entries full es [] (subst AreSingle adds.holdings adds.fine.forth.1) in
           let whole = step (λ d. body_entries p h i.arguments d) d is ∙ en in
@@ -169,7 +170,7 @@ module _ (p : Program) (good : GoodBodies p) (Good : Heap → Instance → Type 
 
       no_body : (d : Predicate) → d.body ≡ None → (es : Holdings) → body_entries p h i.arguments d ≡ Some es → with_inner (flat p n h) es ≡ Some x → BodyTold n i x d es
       no_body d body es en inn =
-          let none_there : [] ≡ es = some_is [] es (sym (ap (body_side i h d) body) ∙ en) in (
+          let none_there : [] ≡ es = same_Some [] es (sym (ap (body_side i h d) body) ∙ en) in (
             ap (λ (b : Option Assertion). option_and_then (with_inner (flat p n g)) (body_side i g d b)) body ∙ subst (λ (es : Holdings). with_inner (flat p n h) es ≡ Some x) (sym none_there) inn,
             λ l w. absurd (not-positive (subst Positive (weigh_none (weight p h l n)) (subst (λ (es : Holdings). Positive (weigh (weight p h l n) es)) (sym none_there) w)) (le-refl none)),
           )

@@ -1,12 +1,12 @@
 -- Values that a leaf doesn't tell apart, and that operators don't either.
 use Rattle.std.proofs.Common.{◌≡◌, ℕ, Bool, true, false, not, List, [], ◌∷◌, Option, Some, None, refl, sym, ◌∙◌, ap, ap₂, subst}
 use Rattle.std.specs.Prelude.{ℤ}
+use Rattle.std.proofs.lemmas.Option.{same_Some}
 use Rattle.vx_frac.specs.Fractions.{Fraction, whole, same_fraction, at_most, is_below, product, lowest}
 use Rattle.vx_ast.specs.Syntax.{Operator, Equal, Less, LessEqual, Greater, GreaterEqual, Add, Subtract, Multiply, Division}
 use Rattle.vx_meaning.specs.Values.{Value, IntValue, BoolValue, RefValue, PermValue, negated, operated, divided, on_fractions}
 use Rattle.vx_terms.specs.Interpretations.{IntLeaf, BoolLeaf, RefLeaf, PermLeaf}
 use Rattle.vx_amounts.proofs.Amounts.{Le, Same, same-refl, same-sym, same-trans, same_is, same-of, same-lowest', lowest_is, le-trans, below_is, sum_same, difference_same, product_same}
-use Rattle.vx_sound_preds.proofs.Fitting.{some_is}
 use Rattle.vx_sound_preds.specs.Bodies.{IsRigid, AreRigid}
 use Rattle.vx_sound_funcs.specs.Told.{LooksLike}
 
@@ -108,7 +108,7 @@ fractions_like : (op : Operator) (a b c d : Fraction) (u : Value) → Same a b �
 fractions_like op a b c d u s t e = record {
   it = on_fractions op b d;
   is = refl;
-  like = subst (λ (v : Value). Likes v (on_fractions op b d)) (some_is (on_fractions op a c) u e) (on_fractions_like op a b c d s t);
+  like = subst (λ (v : Value). Likes v (on_fractions op b d)) (same_Some (on_fractions op a c) u e) (on_fractions_like op a b c d s t);
 }
 
 -- a number scales a fraction in the same way, however it is written
@@ -116,7 +116,7 @@ scaled_like : (op : Operator) (z : ℤ) (a b : Fraction) (u : Value) → Same a 
 scaled_like Multiply z a b u s e = record {
   it = PermValue (product (whole z) b);
   is = refl;
-  like = subst (λ (v : Value). Likes v (PermValue (product (whole z) b))) (some_is (PermValue (product (whole z) a)) u e) (rewritten _ _ (product_same (same-refl (whole z)) s));
+  like = subst (λ (v : Value). Likes v (PermValue (product (whole z) b))) (same_Some (PermValue (product (whole z) a)) u e) (rewritten _ _ (product_same (same-refl (whole z)) s));
 }
 scaled_like Equal z a b u s e = found_itself _ u e
 scaled_like Less z a b u s e = no_value u e

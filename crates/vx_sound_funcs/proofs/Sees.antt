@@ -1,6 +1,7 @@
 -- What fits has like values in two states that are alike where something is held.
 use Rattle.std.proofs.Common.{◌≡◌, pos, Bool, true, false, cond, List, [], ◌∷◌, Option, Some, None, refl, sym, ◌∙◌, ap, subst}
 use Rattle.std.specs.Prelude.{Ok, Err, option_and_then}
+use Rattle.std.proofs.lemmas.Option.{same_Some}
 use Rattle.vx_ast.specs.declared.Place.{Place}
 use Rattle.vx_frac.specs.Fractions.{Fraction, is_positive, over}
 use Rattle.vx_ast.specs.Syntax.{Name, Program, Connective, Expr, Number, Truth, Null, Part, Variable, Not, Operate, Divide, Connect, Choose, Read, Old, Apply, Unfolding, Exprs, NoMore, More}
@@ -11,7 +12,7 @@ use Rattle.vx_meaning.specs.Evaluate.{Applications, value, values}
 use Rattle.vx_meaning.specs.Consistent.{IsHeld}
 use Rattle.vx_meaning.specs.Fits.{Checked, ◌>>=◌, or_fail, guard, Deeper, choose, connected, location_of, amount_of, readable, has_instance, fit, fit_all}
 use Rattle.vx_sound.proofs.Chunks.{held_directly}
-use Rattle.vx_sound_preds.proofs.Fitting.{undo, not_failed, guarded, step, some_is, Keeps, Opens}
+use Rattle.vx_sound_preds.proofs.Fitting.{undo, not_failed, guarded, step, Keeps, Opens}
 use Rattle.vx_sound_preds.specs.Asking.{Says, AllSay}
 use Rattle.vx_sound_funcs.proofs.Likes.{Likes, itself, rewritten, Found, found_itself, negated_like, operated_like, divided_like, AllLike}
 
@@ -68,7 +69,7 @@ either_seen at a b v x x' y y' (rewritten m n s) k l e = failed at v e
 
 -- a value that is read
 read_seen : (p : Program) (s t : State) (f : Name) (a b v : Value) (l : Location) → Matches p s t → Likes a b → location_of f a ≡ Some l → readable p s l ≡ Some v → Found (plain.read p t f b) v
-read_seen p s t f a b v l m (itself (RefValue n)) at e = go l (some_is here l at) (is_positive (amount s.holdings (At l))) refl e
+read_seen p s t f a b v l m (itself (RefValue n)) at e = go l (same_Some here l at) (is_positive (amount s.holdings (At l))) refl e
   where
     here : Location
     here = record { receiver = n; field = f }
@@ -80,7 +81,7 @@ read_seen p s t f a b v l m (itself (RefValue n)) at e = go l (some_is here l at
     go l e true sign h = record {
       it = value_at p t.heap here;
       is = refl;
-      like = subst (λ (x : Value). Likes x (value_at p t.heap here)) (some_is (value_at p s.heap l) v h)
+      like = subst (λ (x : Value). Likes x (value_at p t.heap here)) (same_Some (value_at p s.heap l) v h)
           (subst (λ (k : Location). Likes (value_at p s.heap l) (value_at p t.heap k)) (sym e) (m.heap l (held_directly p s.heap s.holdings l (record { holds = sign }))));
     }
     go l e false sign h = nothing h

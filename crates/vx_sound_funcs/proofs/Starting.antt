@@ -1,6 +1,7 @@
 -- Where a function starts, just what its precondition gives is held, firmly, if its parts fit firmly.
 use Rattle.std.proofs.Common.{◌≡◌, inl, inr, ℕ, ◌+◌, ◌≤◌, Bool, true, false, List, [], ◌∷◌, Some, refl, sym, ◌∙◌, ap, ap₂, subst, arith, ◌++◌, Option}
 use Rattle.std.specs.Prelude.{Ok, option_and_then, flat_map}
+use Rattle.std.proofs.lemmas.Option.{same_Some}
 use Rattle.vx_frac.specs.Fractions.{Fraction, none, full, at_most, is_positive, product}
 use Rattle.vx_ast.specs.declared.ValueType.{ValueType}
 use Rattle.vx_ast.specs.declared.ValueType.TheVariants as type
@@ -23,7 +24,7 @@ use Rattle.vx_amounts.proofs.Amounts.{Positive, le-refl, not-positive, none-full
 use Rattle.vx_elements.proofs.Scopes.{joined_typed}
 use Rattle.vx_sound.proofs.Stripped.{fit_worth, all_fit_worth}
 use Rattle.vx_sound_preds.specs.Covered.{IsProper, IsStocked}
-use Rattle.vx_sound_preds.proofs.Fitting.{undo, step, some_is}
+use Rattle.vx_sound_preds.proofs.Fitting.{undo, step}
 use Rattle.vx_sound_preds.proofs.Framing.{field_parts, instance_parts, amount_same, ok_same}
 use Rattle.vx_sound_preds.proofs.Adding.{fine_gained, Fine}
 use Rattle.vx_sound_preds.proofs.Exchanging.{bound_rigid}
@@ -340,7 +341,7 @@ module _ (p : Program) (x : Name) (typed : IsTypedProgram p) (f : Name) (g : Fun
   good_at i z =
       let stock : Stock p t.heap t.holdings = record { debts = gave.given.fine.forth.0; single = gave.given.fine.forth.1; grounded = gave.given.fine.back } in
       let k = held_typed p (InClosure p x) t.holdings gave.given.held i (record { holds = z }) in (
-        held_proper p x (good p x typed) t gave.can.supported stock i (record { holds = z }) k.0 (λ d e. subst (λ (d : Predicate). run.HaveTypes d.parameters i.arguments) (some_is k.1.0 d (sym k.1.1 ∙ e)) k.1.3),
+        held_proper p x (good p x typed) t gave.can.supported stock i (record { holds = z }) k.0 (λ d e. subst (λ (d : Predicate). run.HaveTypes d.parameters i.arguments) (same_Some k.1.0 d (sym k.1.1 ∙ e)) k.1.3),
         gave.can.supported.grounded i z,
       )
 

@@ -1,13 +1,14 @@
 -- The steps of an application that is allowed firmly.
 use Rattle.std.proofs.Common.{◌≡◌, true, List, Option, Some, None, refl, sym, ◌∙◌, ap}
 use Rattle.std.specs.Prelude.{Ok, Err}
+use Rattle.std.proofs.lemmas.Option.{same_Some}
 use Rattle.vx_frac.specs.Fractions.{full}
 use Rattle.vx_ast.specs.Syntax.{Name, Program, Function, function_named, conjoined}
 use Rattle.vx_meaning.specs.Values.{Value, IntValue, BoolValue, RefValue, PermValue, is_true}
 use Rattle.vx_meaning.specs.States.{State, Holdings, bind, with_store}
 use Rattle.vx_meaning.specs.Fits.{Checked, ◌>>=◌, guard, to_option, Deeper, fit, take}
 use Rattle.vx_meaning.specs.Fails.{with_result}
-use Rattle.vx_sound_preds.proofs.Fitting.{undo, guarded, some_is}
+use Rattle.vx_sound_preds.proofs.Fitting.{undo, guarded}
 use Rattle.vx_sound_preds.proofs.Framing.{ok_same}
 use Rattle.vx_sound_funcs.specs.Told.{precondition_of}
 use Rattle.vx_sound_funcs.specs.Firm.{start_of, promised, firm_value, firm_application}
@@ -24,7 +25,7 @@ pub nothing_some : {A : Type 0} {B : Type 0} (a : A) → ◌≡◌ {A = Option A
 nothing_some a e = cc
 
 pub some_of : {A : Type 0} (x : Checked A) (a : A) → to_option x ≡ Some a → x ≡ Ok a
-some_of (Ok b) a e = ap Ok (some_is b a e)
+some_of (Ok b) a e = ap Ok (same_Some b a e)
 some_of (Err at) a e = nothing_some a e
 
 truth_is : (v : Value) → is_true v ≡ true → v ≡ BoolValue true

@@ -1,6 +1,7 @@
 -- What taking and adding an asking assertion do, where applications have like values in states that match.
 use Rattle.std.proofs.Common.{◌≡◌, ℕ, ◌≤◌, arith, Bool, true, false, cond, List, [], ◌∷◌, ◌++◌, Option, Some, None, refl, sym, ◌∙◌, ap, ap₂, subst}
 use Rattle.std.specs.Prelude.{Ok, option_and_then}
+use Rattle.std.proofs.lemmas.Option.{same_Some}
 use Rattle.vx_ast.specs.declared.Place.{Place}
 use Rattle.vx_frac.specs.Fractions.{Fraction, none, full, product}
 use Rattle.vx_ast.specs.Syntax.{Name, Program, Expr, Exprs, Assertion, Pure, Points, Both, Implied, Chosen, place_of}
@@ -14,7 +15,7 @@ use Rattle.vx_meaning.specs.Fits.{Checked, ◌>>=◌, guard, choose, location_of
 use Rattle.vx_amounts.proofs.Amounts.{Le, Positive, positive-le, none-full, full-positive}
 use Rattle.vx_amounts.proofs.Products.{product_sign, product_positive}
 use Rattle.vx_sound_preds.specs.Bodies.{IsRigid, AreRigid, RigidStore, Rigid, GoodBodies}
-use Rattle.vx_sound_preds.proofs.Fitting.{undo, step, some_is, guarded}
+use Rattle.vx_sound_preds.proofs.Fitting.{undo, step, guarded}
 use Rattle.vx_sound_preds.proofs.Flats.{came}
 use Rattle.vx_sound_preds.proofs.Looks.{Sees}
 use Rattle.vx_sound_preds.proofs.Framing.{Later, later_same, later_both, field_parts, instance_parts, ok_same, failed, picked, amount_same, add_earlier}
@@ -67,7 +68,7 @@ matches_seen p s t k = record { store = k.store; heap = λ l h. subst (λ (g : H
 pub located : (f : Name) (r : Value) (l : Location) (a b : Fraction) → location_of f r ≡ Some l → a ≡ b → location_entry f r (PermValue a) ≡ Some ((At l, b) ∷ [])
 located f (RefValue r) l a b e g =
     let m : Location = record { receiver = r; field = f } in
-    ap₂ (λ (l : Location) (a : Fraction). let y : Holdings = (At l, a) ∷ [] in Some y) (some_is m l e) g
+    ap₂ (λ (l : Location) (a : Fraction). let y : Holdings = (At l, a) ∷ [] in Some y) (same_Some m l e) g
 located f (IntValue r) l a b e g = cc
 located f (BoolValue r) l a b e g = cc
 located f (PermValue r) l a b e g = cc
@@ -95,7 +96,7 @@ taken_append q [] ys h = refl
 taken_append q (x ∷ xs) ys h = taken_append q xs ys (lost x.0 (product q x.1) h)
 
 pub truth_entries : (b : Bool) (es : Holdings) → cond b (Some []) None ≡ Some es → es ≡ []
-truth_entries true es e = sym (some_is [] es e)
+truth_entries true es e = sym (same_Some [] es e)
 truth_entries false es e = cc
 
 pub record Took (p : Program) (m : ℕ) (h : Heap) (s : State) (a : Assertion) (hs rest : Holdings) : Type 0 where
@@ -301,7 +302,7 @@ module _ (p : Program) (good : GoodBodies p) (now : SpeakNow p) (n m : ℕ) (ali
         let x = undo (add p (firmly p n) full a s) (λ t. add p (firmly p n) full b t) u eq in
         let y = came (asking_entries p (applications p m) t a) (λ xs. option_and_then (λ ys. Some (xs ++ ys)) (asking_entries p (applications p m) t b)) es en in
         let z = came (asking_entries p (applications p m) t b) (λ ys. Some (y.it ++ ys)) es y.then in
-        let es_is : y.it ++ z.it ≡ es = some_is (y.it ++ z.it) es z.then in
+        let es_is : y.it ++ z.it ≡ es = same_Some (y.it ++ z.it) es z.then in
         let all = subst (AreEntries p s.heap) (sym es_is) ok in
         let first = add_asks a s x.it y.it k.0 f sees y.is (entries_left p s.heap y.it z.it all) x.is in
         let rest = subst (λ (h : Heap). AreEntries p h z.it) (sym first.heap) (entries_right p s.heap y.it z.it all) in
@@ -313,7 +314,7 @@ module _ (p : Program) (good : GoodBodies p) (now : SpeakNow p) (n m : ℕ) (ali
         let v = w.is ∙ ap Some (condition_like (place_of c) x.it w.it (add p (firmly p n) full a s) (Ok s) u w.like x.then) in
         side {R = Adds p full es s u} (place_of c) x.it (add p (firmly p n) full a s) (Ok s) (asking_entries p (applications p m) t a) (Some []) u es
         (λ e g. add_asks a s u es k.1 f sees g ok e)
-        (λ e g. subst (λ (es : Holdings). Adds p full es s u) (some_is [] es g) (nothing_added s u f (ok_same s u e)))
+        (λ e g. subst (λ (es : Holdings). Adds p full es s u) (same_Some [] es g) (nothing_added s u f (ok_same s u e)))
         x.then (sym (step (λ v. plain.choose v (asking_entries p (applications p m) t a) (Some [])) x.it v) ∙ en)
     add_asks (Chosen c a b) s u es k f sees en ok eq =
         let x = undo (fit p (firmly p n) s c) (λ v. choose (place_of c) v (add p (firmly p n) full a s) (add p (firmly p n) full b s)) u eq in

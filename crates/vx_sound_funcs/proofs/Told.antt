@@ -1,6 +1,7 @@
 -- The asking tree of an assertion tells what it names, and the values where it gives something.
 use Rattle.std.proofs.Common.{◌≡◌, ℕ, Bool, true, false, cond, List, [], ◌∷◌, ◌++◌, Option, Some, None, refl, sym, ◌∙◌, ap, subst}
 use Rattle.std.specs.Prelude.{Ok, option_and_then}
+use Rattle.std.proofs.lemmas.Option.{same_Some}
 use Rattle.vx_ast.specs.declared.Place.{Place}
 use Rattle.vx_frac.specs.Fractions.{Fraction, full, product}
 use Rattle.vx_ast.specs.Syntax.{Name, Program, Assertion, Pure, Points, Both, Implied, Chosen, place_of}
@@ -15,7 +16,7 @@ use Rattle.vx_terms.specs.Interpretations.{Tree, Empty, Pair}
 use Rattle.vx_amounts.proofs.Amounts.{Positive, none-full, full-positive}
 use Rattle.vx_sound.specs.Snapshots.{leaf, location_leaf}
 use Rattle.vx_sound_preds.specs.Bodies.{Rigid, GoodBodies}
-use Rattle.vx_sound_preds.proofs.Fitting.{undo, step, some_is}
+use Rattle.vx_sound_preds.proofs.Fitting.{undo, step}
 use Rattle.vx_sound_preds.proofs.Flats.{came}
 use Rattle.vx_sound_preds.proofs.Looks.{Sees}
 use Rattle.vx_sound_preds.proofs.Totals.{weight}
@@ -36,7 +37,7 @@ use Rattle.vx_sound_funcs.proofs.Taking.{truth_like, condition_like, matches_see
 leaf_told : (p : Program) (h g : Heap) (f : Name) (r : Value) (l : Location) (t : Tree) → location_of f r ≡ Some l → location_leaf p h f r ≡ Some t → location_leaf p g f r ≡ Some t → Likes (value_at p h l) (value_at p g l)
 leaf_told p h g f (RefValue r) l t at e k =
     let m : Location = record { receiver = r; field = f } in
-    subst (λ (l : Location). Likes (value_at p h l) (value_at p g l)) (some_is m l at) (likes (value_at p h m) (value_at p g m) (some_is (leaf (value_at p h m)) t e ∙ sym (some_is (leaf (value_at p g m)) t k)))
+    subst (λ (l : Location). Likes (value_at p h l) (value_at p g l)) (same_Some m l at) (likes (value_at p h m) (value_at p g m) (same_Some (leaf (value_at p h m)) t e ∙ sym (same_Some (leaf (value_at p g m)) t k)))
 leaf_told p h g f (IntValue r) l t at e k = cc
 leaf_told p h g f (BoolValue r) l t at e k = cc
 leaf_told p h g f (PermValue r) l t at e k = cc
@@ -164,10 +165,10 @@ module _ (p : Program) (good : GoodBodies p) (now : SpeakNow p) (n m : ℕ) (ali
       let l' = came (asking_tree p (applications p m) f o b) (λ u. Some (Pair l.it u)) tree l.then in
       let r = came (asking_tree p (applications p m) g t a) (λ q. option_and_then (λ z. Some (Pair q z)) (asking_tree p (applications p m) g t b)) tree there in
       let r' = came (asking_tree p (applications p m) g t b) (λ u. Some (Pair r.it u)) tree r.then in
-      let both = some_is (Pair l.it l'.it) tree l'.then ∙ sym (some_is (Pair r.it r'.it) tree r'.then) in
+      let both = same_Some (Pair l.it l'.it) tree l'.then ∙ sym (same_Some (Pair r.it r'.it) tree r'.then) in
       let one = told a s x.it l.it y.it k.0 h mid x.is sees like (tell_earlier x.it u later tell) l.is (r.is ∙ ap Some (sym (pair_first l.it l'.it r.it r'.it both))) y.is in
       let two = told b x.it u l'.it z.it k.1 known hu x.then sees' one.1.0 tell l'.is (r'.is ∙ ap Some (sym (pair_second l.it l'.it r.it r'.it both))) z.is in
-      let is : y.it ++ z.it ≡ es = some_is (y.it ++ z.it) es z.then in (
+      let is : y.it ++ z.it ≡ es = same_Some (y.it ++ z.it) es z.then in (
         step (λ xs. option_and_then (λ ys. Some (xs ++ ys)) (asking_entries p (applications p m) t b)) y.it one.0 ∙ step (λ ys. Some (y.it ++ ys)) z.it two.0 ∙ z.then,
         (
           two.1.0,
@@ -184,7 +185,7 @@ module _ (p : Program) (good : GoodBodies p) (now : SpeakNow p) (n m : ℕ) (ali
       let r = side_told {R = Matches p u t × SameTrees f g es × (u.holdings ≡ added full es s.holdings)} (place_of c) x.it (add p (firmly p n) full a s) (Ok s) u
       (asking_tree p (applications p m) f o a) (Some Empty) (asking_tree p (applications p m) g t a) (Some Empty) tree (asking_entries p (applications p m) o a) (Some []) (asking_entries p (applications p m) t a) (Some []) es
       (λ e i j q. told a s u tree es k.1 h hu e sees like tell i j q)
-      (λ e i j q. (q, (subst (λ (u : State). Matches p u t) (ok_same s u e) like, no_trees f g es (sym (some_is [] es q)), ap (λ (u : State). u.holdings) (sym (ok_same s u e)) ∙ nothing_added full s.holdings es (sym (some_is [] es q)))))
+      (λ e i j q. (q, (subst (λ (u : State). Matches p u t) (ok_same s u e) like, no_trees f g es (sym (same_Some [] es q)), ap (λ (u : State). u.holdings) (sym (ok_same s u e)) ∙ nothing_added full s.holdings es (sym (same_Some [] es q)))))
       x.then
       (sym (step (λ v. plain.choose v (asking_tree p (applications p m) f o a) (Some Empty)) x.it v) ∙ here)
       (sym (step (λ v. plain.choose v (asking_tree p (applications p m) g t a) (Some Empty)) x.it w) ∙ there)

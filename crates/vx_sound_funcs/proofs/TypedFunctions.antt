@@ -1,6 +1,7 @@
 -- In a typed program functions speak of no earlier state, and they are good: their preconditions may apply any.
 use Rattle.std.proofs.Common.{◌≡◌, ℕ, zero, suc, ℤ, pos, negsuc, Bool, true, false, cond, List, [], ◌∷◌, ◌++◌, Option, Some, None, refl, sym, ◌∙◌, ap, subst}
 use Rattle.std.specs.Prelude.{option_and_then}
+use Rattle.std.proofs.lemmas.Option.{same_Some}
 use Rattle.vx_ast.specs.declared.Place.{Place}
 use Rattle.vx_ast.specs.declared.ValueType.{ValueType}
 use Rattle.vx_ast.specs.declared.ValueType.TheVariants.{Perm}
@@ -17,7 +18,6 @@ use Rattle.vx_meaning.specs.Evaluate.{choose, connected, read, applications, val
 use Rattle.vx_elements.proofs.Values.{value_typed}
 use Rattle.vx_elements.proofs.Scopes.{joined_typed}
 use Rattle.vx_sound_preds.specs.Bodies.{IsRigid, AreRigid, RigidStore, Rigid}
-use Rattle.vx_sound_preds.proofs.Fitting.{some_is}
 use Rattle.vx_sound_preds.proofs.Flats.{came}
 use Rattle.vx_sound_preds.proofs.Exchanging.{bound_rigid}
 use Rattle.vx_sound_preds.proofs.Typed.{on_left, on_right}
@@ -34,7 +34,7 @@ found x [] v h e = cc
 found x (y ∷ xs) v h e = go (same_name x y.0) (found x xs v h.1) e
   where
     go : (b : Bool) → (lookup x xs ≡ Some v → IsRigid v) → cond b (Some y.1) (lookup x xs) ≡ Some v → IsRigid v
-    go true f e = subst IsRigid (some_is y.1 v e) h.0
+    go true f e = subst IsRigid (same_Some y.1 v e) h.0
     go false f e = f e
 
 picked : (v : Value) (x y : Option Value) (w : Value) → (x ≡ Some w → IsRigid w) → (y ≡ Some w → IsRigid w) → choose v x y ≡ Some w → IsRigid w
@@ -45,7 +45,7 @@ picked (RefValue z) x y w h k e = cc
 picked (PermValue z) x y w h k e = cc
 
 negated_rigid : (v w : Value) → negated v ≡ Some w → IsRigid w
-negated_rigid (BoolValue b) w e = subst IsRigid (some_is _ w e) tt
+negated_rigid (BoolValue b) w e = subst IsRigid (same_Some _ w e) tt
 negated_rigid (IntValue b) w e = cc
 negated_rigid (RefValue b) w e = cc
 negated_rigid (PermValue b) w e = cc
@@ -110,7 +110,7 @@ connected_rigid c (BoolValue a) o w h e = go (needs_right c a) e
   where
     go : (b : Bool) → cond b o (Some (BoolValue (without_right c))) ≡ Some w → IsRigid w
     go true e = h e
-    go false e = subst IsRigid (some_is (BoolValue (without_right c)) w e) tt
+    go false e = subst IsRigid (same_Some (BoolValue (without_right c)) w e) tt
 connected_rigid c (IntValue a) o w h e = cc
 connected_rigid c (RefValue a) o w h e = cc
 connected_rigid c (PermValue a) o w h e = cc
@@ -119,7 +119,7 @@ module _ (p : Program) where
   read_rigid : (f : Name) (s : State) (r v : Value) → ((field_type p f ≡ Perm) → ⊥) → read p s f r ≡ Some v → IsRigid v
   read_rigid f s (RefValue r) v k e =
       let l : Location = record { receiver = r; field = f } in
-      subst IsRigid (some_is (value_at p s.heap l) v e) (rigid_value (value_at p s.heap l) (λ is. k (sym (value_typed p s.heap l) ∙ is)))
+      subst IsRigid (same_Some (value_at p s.heap l) v e) (rigid_value (value_at p s.heap l) (λ is. k (sym (value_typed p s.heap l) ∙ is)))
   read_rigid f s (IntValue r) v k e = cc
   read_rigid f s (BoolValue r) v k e = cc
   read_rigid f s (PermValue r) v k e = cc
@@ -132,9 +132,9 @@ module _ (p : Program) where
     module _ (n : ℕ) (ih : ApplicationsRigid n) where
       mutual
         rigid : (s : State) → Rigid s → {scope : Scope} {e : Expr} {t : ValueType} → HasType p scope e t → ((t ≡ Perm) → ⊥) → (v : Value) → value p (applications p n) s e ≡ Some v → IsRigid v
-        rigid s r (number at n) k v e = subst IsRigid (some_is _ v e) tt
-        rigid s r (truth) k v e = subst IsRigid (some_is _ v e) tt
-        rigid s r (nulls at) k v e = subst IsRigid (some_is _ v e) tt
+        rigid s r (number at n) k v e = subst IsRigid (same_Some _ v e) tt
+        rigid s r (truth) k v e = subst IsRigid (same_Some _ v e) tt
+        rigid s r (nulls at) k v e = subst IsRigid (same_Some _ v e) tt
         rigid s r (part at n d l) k v e = absurd (k refl)
         rigid s r (variable at x is) k v e = found x s.store v r e
         rigid s r (nots {e = a} h) k v e =
@@ -165,11 +165,11 @@ module _ (p : Program) where
         rigid s r (unfoldings i d is hs hq h) k v e = rigid s r h k v e
 
         all_rigid : (s : State) → Rigid s → {scope : Scope} {es : Exprs} {ds : List Declaration} → HaveTypes p scope es ds → HaveNoPerm ds → (vs : List Value) → values p (applications p n) s es ≡ Some vs → AreRigid vs
-        all_rigid s r no_more k vs e = subst AreRigid (some_is [] vs e) tt
+        all_rigid s r no_more k vs e = subst AreRigid (same_Some [] vs e) tt
         all_rigid s r (more {e = a} {es = es} h hs) k vs e =
             let x = came (value p (applications p n) s a) (λ v. option_and_then (λ vs. Some (v ∷ vs)) (values p (applications p n) s es)) vs e in
             let y = came (values p (applications p n) s es) (λ vs. Some (x.it ∷ vs)) vs x.then in
-            subst AreRigid (some_is (x.it ∷ y.it) vs y.then) (rigid s r h k.0 x.it x.is, all_rigid s r hs k.1 y.it y.is)
+            subst AreRigid (same_Some (x.it ∷ y.it) vs y.then) (rigid s r h k.0 x.it x.is, all_rigid s r hs k.1 y.it y.is)
 
     same_function : (d g : Function) → Some d ≡ Some g → d ≡ g
     same_function d g e = cc

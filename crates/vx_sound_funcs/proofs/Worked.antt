@@ -1,6 +1,7 @@
 -- A function that reads a field under an instance, one that applies it, and a body that doesn't fit.
 use Rattle.std.proofs.Common.{◌≡◌, ℕ, zero, suc, ◌≤◌, ℤ, pos, Bool, true, false, cond, List, [], ◌∷◌, Option, Some, None, refl, sym, ◌∙◌, ap, subst, arith}
 use Rattle.std.specs.Prelude.{unwrap_or, nat_eq, ◌&&◌, Ok, option_and_then, ◌+ℤ◌}
+use Rattle.std.proofs.lemmas.Option.{same_Some}
 use Rattle.vx_frac.specs.Fractions.{none, full, at_most, is_positive, over, sum}
 use Rattle.vx_ast.specs.Syntax.{Name, same_name, conjoined, Predicate, Function, Assertion, Kind, IsField, IsPredicate, IsFunction, predicate_in, function_in, predicate_named, function_named}
 use Rattle.vx_ast.specs.declared.ValueType.TheVariants.{Int}
@@ -18,7 +19,6 @@ use Rattle.vx_types.specs.Now.{IsOfNow}
 use Rattle.vx_sound_preds.specs.Bodies.{IsRigid, AreRigid, RigidStore, Rigid, IsAmount, GoodBodies, IsPlainBody}
 use Rattle.vx_sound_preds.specs.Covered.{AllGood, Covered, IsProper}
 use Rattle.vx_sound_preds.specs.Examples.{here, P, f, x, instance_of}
-use Rattle.vx_sound_preds.proofs.Fitting.{some_is}
 use Rattle.vx_sound_preds.proofs.Flats.{came}
 use Rattle.vx_sound_preds.proofs.Grouped.{resource_is}
 use Rattle.vx_sound_funcs.specs.Told.{LooksLike, precondition_of, IsValueOf}
@@ -45,7 +45,7 @@ the_predicate y d e = go (same_name y f) (same_name y P) (same_name y get) (same
       ]
     ]) ≡ Some d → box ≡ d
     go true b c k l e = cc
-    go false true c k l e = some_is box d e
+    go false true c k l e = same_Some box d e
     go false false true k l e = cc
     go false false false true l e = cc
     go false false false false true e = cc
@@ -66,9 +66,9 @@ each_function Q q r s y h e = go (same_name y f) (same_name y P) (same_name y ge
     ]) ≡ Some h → Q h
     go true b c k l e = cc
     go false true c k l e = cc
-    go false false true k l e = subst Q (some_is getter h e) q
-    go false false false true l e = subst Q (some_is doubler h e) r
-    go false false false false true e = subst Q (some_is peeker h e) s
+    go false false true k l e = subst Q (same_Some getter h e) q
+    go false false false true l e = subst Q (same_Some doubler h e) r
+    go false false false false true e = subst Q (same_Some peeker h e) s
     go false false false false false e = cc
 
 -- What is good
@@ -78,14 +78,14 @@ looked_up y [] v h e = cc
 looked_up y (z ∷ xs) v h e = go (same_name y z.0) (looked_up y xs v h.1) e
   where
     go : (b : Bool) → (lookup y xs ≡ Some v → IsRigid v) → cond b (Some z.1) (lookup y xs) ≡ Some v → IsRigid v
-    go true f e = subst IsRigid (some_is z.1 v e) h.0
+    go true f e = subst IsRigid (same_Some z.1 v e) h.0
     go false f e = f e
 
 -- the argument x is no amount
 x_is_rigid : (ap : Applications) (s : State) (vs : List Value) → Rigid s → values boxes ap s its_x ≡ Some vs → AreRigid vs
 x_is_rigid ap s vs h e =
     let v = came (lookup x s.store) (λ v. Some (v ∷ [])) vs e in
-    subst AreRigid (some_is (v.it ∷ []) vs v.then) (looked_up x s.store v.it h v.is, tt)
+    subst AreRigid (same_Some (v.it ∷ []) vs v.then) (looked_up x s.store v.it h v.is, tt)
 
 whole_amount : IsAmount boxes all
 whole_amount = record { plain = tt; amount = over 1 1; above = refl; value_is = λ s. refl }
@@ -137,7 +137,7 @@ box_fits h (PermValue r ∷ []) t = other t.0
 no_folded : (h : Heap) (vs : List Value) (es : Holdings) → HaveTypes box.parameters vs → body_entries boxes h vs box ≡ Some es → AllGood (IsProper boxes P) h es
 no_folded h [] es t e = absurd t
 no_folded h (v ∷ w ∷ vs) es t e = absurd t.1
-no_folded h (RefValue r ∷ []) es t e = subst (AllGood (IsProper boxes P) h) (some_is ((At (field_of r), over 1 1) ∷ []) es e) tt
+no_folded h (RefValue r ∷ []) es t e = subst (AllGood (IsProper boxes P) h) (same_Some ((At (field_of r), over 1 1) ∷ []) es e) tt
 no_folded h (IntValue r ∷ []) es t e = cc
 no_folded h (BoolValue r ∷ []) es t e = cc
 no_folded h (PermValue r ∷ []) es t e = cc

@@ -1,6 +1,7 @@
 -- What adding the parts of a body does to what is held.
 use Rattle.std.proofs.Common.{◌≡◌, Bool, true, false, cond, List, [], ◌∷◌, ◌++◌, Option, Some, None, refl, sym, ◌∙◌, ap, ap₂, subst}
 use Rattle.std.specs.Prelude.{Ok, option_and_then}
+use Rattle.std.proofs.lemmas.Option.{same_Some}
 use Rattle.vx_ast.specs.declared.Place.{Place}
 use Rattle.vx_frac.specs.Fractions.{Fraction, none, sum, product}
 use Rattle.vx_ast.specs.Syntax.{Name, Program, Expr, Exprs, Assertion, Pure, Points, Both, Implied, Chosen, place_of}
@@ -14,7 +15,7 @@ use Rattle.vx_meaning.specs.Fits.{Checked, Deeper, choose, location_of, amount_o
 use Rattle.vx_amounts.proofs.Amounts.{Le, Positive, Same, same-refl, same-sym, same-trans, sum_same, none-sum, sum_comm, sum_assoc, none-none}
 use Rattle.vx_amounts.proofs.Products.{product_sum, product_assoc, product-none, product_sign}
 use Rattle.vx_sound_preds.specs.Bodies.{Rigid, IsPlain, ArePlain, IsPlainBody}
-use Rattle.vx_sound_preds.proofs.Fitting.{undo, step, some_is, Opens, fit_framed, fit_all_framed}
+use Rattle.vx_sound_preds.proofs.Fitting.{undo, step, Opens, fit_framed, fit_all_framed}
 use Rattle.vx_sound_preds.proofs.Flats.{came}
 use Rattle.vx_sound_preds.proofs.Totals.{weigh, same_is}
 use Rattle.vx_sound_preds.proofs.Grouped.{IsSingle, AreSingle, NoDebts, resource_is}
@@ -116,7 +117,7 @@ module _ (p : Program) (q : Fraction) (scale : Le none q) where
   pub location_entries : (f : Name) (r v : Value) (l : Location) (a : Fraction) (es : Holdings) → location_of f r ≡ Some l → amount_of v ≡ Some a → location_entry f r v ≡ Some es → es ≡ (At l, a) ∷ []
   location_entries f (RefValue r) (PermValue x) l a es e g h =
       let m : Location = record { receiver = r; field = f } in
-      sym (some_is ((At m, x) ∷ []) es h) ∙ ap₂ (λ (l : Location) (a : Fraction). let y : Holdings = (At l, a) ∷ [] in y) (some_is m l e) (some_is x a g)
+      sym (same_Some ((At m, x) ∷ []) es h) ∙ ap₂ (λ (l : Location) (a : Fraction). let y : Holdings = (At l, a) ∷ [] in y) (same_Some m l e) (same_Some x a g)
   location_entries f (RefValue r) (IntValue x) l a es e g h = cc
   location_entries f (RefValue r) (BoolValue x) l a es e g h = cc
   location_entries f (RefValue r) (RefValue x) l a es e g h = cc
@@ -127,7 +128,7 @@ module _ (p : Program) (q : Fraction) (scale : Le none q) where
   pub instance_entries : (i : Name) (vs : List Value) (v : Value) (a : Fraction) (es : Holdings) → amount_of v ≡ Some a → instance_entry i vs v ≡ Some es → es ≡ (Folded record { predicate = i; arguments = vs }, a) ∷ []
   instance_entries i vs (PermValue x) a es g h =
       let j : Instance = record { predicate = i; arguments = vs } in
-      sym (some_is ((Folded j, x) ∷ []) es h) ∙ ap (λ (a : Fraction). let y : Holdings = (Folded j, a) ∷ [] in y) (some_is x a g)
+      sym (same_Some ((Folded j, x) ∷ []) es h) ∙ ap (λ (a : Fraction). let y : Holdings = (Folded j, a) ∷ [] in y) (same_Some x a g)
   instance_entries i vs (IntValue x) a es g h = cc
   instance_entries i vs (BoolValue x) a es g h = cc
   instance_entries i vs (RefValue x) a es g h = cc
@@ -150,7 +151,7 @@ module _ (p : Program) (q : Fraction) (scale : Le none q) where
   no_entries v es e = go (is_true v) e
     where
       go : (b : Bool) → cond b (Some []) None ≡ Some es → es ≡ []
-      go true e = sym (some_is [] es e)
+      go true e = sym (same_Some [] es e)
       go false e = cc
 
   -- the side that is picked, for the check and for the entries
@@ -200,7 +201,7 @@ module _ (p : Program) (q : Fraction) (scale : Le none q) where
         let x = undo (add p d q a s) (λ t. add p d q b t) u eq in
         let y = came (entries p s a) (λ xs. option_and_then (λ ys. Some (xs ++ ys)) (entries p s b)) es en in
         let z = came (entries p s b) (λ ys. Some (y.it ++ ys)) es y.then in
-        let es_is : y.it ++ z.it ≡ es = some_is (y.it ++ z.it) es z.then in
+        let es_is : y.it ++ z.it ≡ es = same_Some (y.it ++ z.it) es z.then in
         let all = subst (AreEntries p s.heap) (sym es_is) ok in
         let first = add_adds a s x.it y.it k.0 f y.is (entries_left p s.heap y.it z.it all) x.is in
         let seen = entries_seen p Rigid s x.it (record { store = first.store; heap = first.heap }) b k.1 in
@@ -212,7 +213,7 @@ module _ (p : Program) (q : Fraction) (scale : Le none q) where
         let w = value_here s c x.it f k.0 x.is in
         side {R = Adds p q es s u} (place_of c) x.it (add p d q a s) (Ok s) (entries p s a) (Some []) u es
         (λ e g. add_adds a s u es k.1 f g ok e)
-        (λ e g. subst (λ (es : Holdings). Adds p q es s u) (some_is [] es g) (nothing_added s u f (ok_same s u e)))
+        (λ e g. subst (λ (es : Holdings). Adds p q es s u) (same_Some [] es g) (nothing_added s u f (ok_same s u e)))
         x.then (sym (step (λ v. plain.choose v (entries p s a) (Some [])) x.it w) ∙ en)
     add_adds (Chosen c a b) s u es k f en ok eq =
         let x = undo (fit p d s c) (λ v. choose (place_of c) v (add p d q a s) (add p d q b s)) u eq in

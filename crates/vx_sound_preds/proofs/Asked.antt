@@ -2,6 +2,7 @@
 -- that has its value by some fuel has it by more.
 use Rattle.std.proofs.Common.{◌≡◌, ℕ, ◌+◌, cond, List, [], ◌∷◌, ◌++◌, Option, Some, None, sym, ◌∙◌, ap, ap₂, subst, le_refl, arith}
 use Rattle.std.specs.Prelude.{Ok, option_and_then}
+use Rattle.std.proofs.lemmas.Option.{same_Some}
 use Rattle.vx_ast.specs.declared.Place.{Place}
 use Rattle.vx_ast.specs.Syntax.{Name, Program, Expr, Exprs, Assertion, Pure, Points, Both, Implied, Chosen}
 use Rattle.vx_ast.specs.Syntax as syntax
@@ -18,7 +19,7 @@ use Rattle.vx_sound.proofs.Stripped.{value_stripped, values_stripped, applies_st
 use Rattle.vx_sound.proofs.Evaluated.{known, all_known}
 use Rattle.vx_sound.proofs.Speaks.{SpeaksOf}
 use Rattle.vx_sound_preds.specs.Asking.{asking_tree, asking_entries, IsAskingTreeOf, IsAskingAmount, IsAsking}
-use Rattle.vx_sound_preds.proofs.Fitting.{step, some_is}
+use Rattle.vx_sound_preds.proofs.Fitting.{step}
 use Rattle.vx_sound_preds.proofs.Flats.{came, tree_later}
 use Rattle.vx_sound_preds.proofs.Frames.{AllPositive, location_positive, append_positive, chosen_positive, empty_positive, truth_positive}
 use Rattle.vx_sound_preds.proofs.Same.{entries_later, asking_later}
@@ -107,11 +108,11 @@ module _ (p : Program) (ap' : Applications) (s : State) where
   asking_positive (syntax.Instance at i xs share) es k eq =
       let y = came (values p ap' s xs) (λ vs. option_and_then (instance_entry i vs) (value p no_applications s share)) es eq in
       let e = sym (step (instance_entry i y.it) (PermValue k.1.amount) (k.1.value_is no_applications s)) ∙ y.then in
-      subst AllPositive (some_is ((Folded record { predicate = i; arguments = y.it }, k.1.amount) ∷ []) es e) (above k.1, tt)
+      subst AllPositive (same_Some ((Folded record { predicate = i; arguments = y.it }, k.1.amount) ∷ []) es e) (above k.1, tt)
   asking_positive (Both a b) es k eq =
       let y = came (asking_entries p ap' s a) (λ xs. option_and_then (λ ys. Some (xs ++ ys)) (asking_entries p ap' s b)) es eq in
       let z = came (asking_entries p ap' s b) (λ ys. Some (y.it ++ ys)) es y.then in
-      subst AllPositive (some_is (y.it ++ z.it) es z.then) (append_positive p y.it z.it (asking_positive a y.it k.0 y.is) (asking_positive b z.it k.1 z.is))
+      subst AllPositive (same_Some (y.it ++ z.it) es z.then) (append_positive p y.it z.it (asking_positive a y.it k.0 y.is) (asking_positive b z.it k.1 z.is))
   asking_positive (Implied c a) es k eq =
       let y = came (value p ap' s c) (λ v. choose v (asking_entries p ap' s a) (Some [])) es eq in
       chosen_positive p y.it (asking_entries p ap' s a) (Some []) es (asking_positive a es k.1) (empty_positive p es) y.then

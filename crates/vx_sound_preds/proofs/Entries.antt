@@ -1,6 +1,7 @@
 -- The entries of a typed body are of locations and of instances that can be held, and so are those of a precondition.
 use Rattle.std.proofs.Common.{◌≡◌, ℕ, Bool, true, false, cond, List, [], ◌∷◌, ◌++◌, Option, Some, None, subst}
 use Rattle.std.specs.Prelude.{option_and_then}
+use Rattle.std.proofs.lemmas.Option.{same_Some}
 use Rattle.vx_ast.specs.Syntax.{Name, Declaration, Program, Predicate, Function, predicate_named, function_named, Assertion, Pure, Points, Both, Implied, Chosen}
 use Rattle.vx_ast.specs.Syntax as syntax
 use Rattle.vx_meaning.specs.Values.{Value, IntValue, BoolValue, RefValue, PermValue, is_true}
@@ -14,7 +15,6 @@ use Rattle.vx_sound.proofs.World.{IsTypedInstance}
 use Rattle.vx_sound.proofs.Speaks.{SpeaksOf}
 use Rattle.vx_sound_preds.specs.Bodies.{Rigid, IsPlainBody}
 use Rattle.vx_sound_preds.specs.Asking.{asking_entries}
-use Rattle.vx_sound_preds.proofs.Fitting.{some_is}
 use Rattle.vx_sound_preds.proofs.Flats.{came}
 use Rattle.vx_sound_preds.proofs.Types.{found_type, have_types}
 use Rattle.vx_sound_preds.proofs.TypedValues as applied_values
@@ -35,14 +35,14 @@ module _ (p : Program) (Held : Name → Type 0) (no_perm : (x : Name) (d : Predi
   chosen_typed (PermValue z) first second es a b e = cc
 
   empty_typed : (es : Holdings) → Some [] ≡ Some es → TypedAll p Held es
-  empty_typed es e = subst (TypedAll p Held) (some_is [] es e) tt
+  empty_typed es e = subst (TypedAll p Held) (same_Some [] es e) tt
 
   truth_typed : (b : Bool) (es : Holdings) → cond b (Some []) None ≡ Some es → TypedAll p Held es
   truth_typed true es e = empty_typed es e
   truth_typed false es e = cc
 
   location_typed : (f : Name) (r v : Value) (es : Holdings) → location_entry f r v ≡ Some es → TypedAll p Held es
-  location_typed f (RefValue r) (PermValue q) es e = subst (TypedAll p Held) (some_is ((At record { receiver = r; field = f }, q) ∷ []) es e) (tt, tt)
+  location_typed f (RefValue r) (PermValue q) es e = subst (TypedAll p Held) (same_Some ((At record { receiver = r; field = f }, q) ∷ []) es e) (tt, tt)
   location_typed f (RefValue r) (IntValue q) es e = cc
   location_typed f (RefValue r) (BoolValue q) es e = cc
   location_typed f (RefValue r) (RefValue q) es e = cc
@@ -51,7 +51,7 @@ module _ (p : Program) (Held : Name → Type 0) (no_perm : (x : Name) (d : Predi
   location_typed f (PermValue r) v es e = cc
 
   instance_typed : (i : Name) (vs : List Value) (v : Value) (es : Holdings) → IsTypedInstance p Held (record { predicate = i; arguments = vs }) → instance_entry i vs v ≡ Some es → TypedAll p Held es
-  instance_typed i vs (PermValue q) es t e = subst (TypedAll p Held) (some_is ((Folded record { predicate = i; arguments = vs }, q) ∷ []) es e) (t, tt)
+  instance_typed i vs (PermValue q) es t e = subst (TypedAll p Held) (same_Some ((Folded record { predicate = i; arguments = vs }, q) ∷ []) es e) (t, tt)
   instance_typed i vs (IntValue q) es t e = cc
   instance_typed i vs (BoolValue q) es t e = cc
   instance_typed i vs (RefValue q) es t e = cc
@@ -71,7 +71,7 @@ module _ (p : Program) (Held : Name → Type 0) (no_perm : (x : Name) (d : Predi
   entries_typed ds vs tv h (Both a b) es t k sp eq =
       let y = came (entries p (bare (bind ds vs) h) a) (λ xs. option_and_then (λ ys. Some (xs ++ ys)) (entries p (bare (bind ds vs) h) b)) es eq in
       let z = came (entries p (bare (bind ds vs) h) b) (λ ys. Some (y.it ++ ys)) es y.then in
-      subst (TypedAll p Held) (some_is (y.it ++ z.it) es z.then) (append_typed y.it z.it (entries_typed ds vs tv h a y.it t.0 k.0 sp.0 y.is) (entries_typed ds vs tv h b z.it t.1 k.1 sp.1 z.is))
+      subst (TypedAll p Held) (same_Some (y.it ++ z.it) es z.then) (append_typed y.it z.it (entries_typed ds vs tv h a y.it t.0 k.0 sp.0 y.is) (entries_typed ds vs tv h b z.it t.1 k.1 sp.1 z.is))
   entries_typed ds vs tv h (Implied c a) es t k sp eq =
       let y = came (value p no_applications (bare (bind ds vs) h) c) (λ v. plain.choose v (entries p (bare (bind ds vs) h) a) (Some [])) es eq in
       chosen_typed y.it (entries p (bare (bind ds vs) h) a) (Some []) es (entries_typed ds vs tv h a es t.1 k.1 sp.1) (empty_typed es) y.then
@@ -103,7 +103,7 @@ module _ (p : Program) (Held : Name → Type 0) (no_perm : (x : Name) (d : Predi
     asking_typed (Both a b) es t sp eq =
         let y = came (asking_entries p ap' here a) (λ xs. option_and_then (λ ys. Some (xs ++ ys)) (asking_entries p ap' here b)) es eq in
         let z = came (asking_entries p ap' here b) (λ ys. Some (y.it ++ ys)) es y.then in
-        subst (TypedAll p Held) (some_is (y.it ++ z.it) es z.then) (append_typed y.it z.it (asking_typed a y.it t.0 sp.0 y.is) (asking_typed b z.it t.1 sp.1 z.is))
+        subst (TypedAll p Held) (same_Some (y.it ++ z.it) es z.then) (append_typed y.it z.it (asking_typed a y.it t.0 sp.0 y.is) (asking_typed b z.it t.1 sp.1 z.is))
     asking_typed (Implied c a) es t sp eq =
         let y = came (value p ap' here c) (λ v. plain.choose v (asking_entries p ap' here a) (Some [])) es eq in
         chosen_typed y.it (asking_entries p ap' here a) (Some []) es (asking_typed a es t.1 sp) (empty_typed es) y.then

@@ -1,6 +1,8 @@
 -- An exchange of an instance for its body keeps every total, and so what is held.
 use Rattle.std.proofs.Common.{◌≡◌, ℕ, zero, suc, ◌+◌, Bool, true, false, cond, List, [], ◌∷◌, ◌++◌, Option, Some, None, refl, sym, ◌∙◌, ap, subst, arith}
 use Rattle.std.specs.Prelude.{Ok, Err, option_and_then, unwrap_or}
+use Rattle.std.proofs.lemmas.Option.{same_Some}
+use Rattle.std.proofs.lemmas.Bool.{and_parts}
 use Rattle.vx_frac.specs.Fractions.{Fraction, none, sum, minus, product}
 use Rattle.vx_ast.specs.Syntax.{Name, Program, Predicate, Declaration, Assertion, Pure, Points, Both, Implied, Chosen, predicate_named}
 use Rattle.vx_ast.specs.Syntax as syntax
@@ -11,11 +13,10 @@ use Rattle.vx_meaning.specs.Evaluate.{value, values}
 use Rattle.vx_meaning.specs.Flatten.{no_applications, bare, entries, location_entry, instance_entry, body_entries, within, with_inner, flat, IsGrounded}
 use Rattle.vx_meaning.specs.Consistent.{total, IsHeld}
 use Rattle.vx_meaning.specs.Fits.{Checked, ◌>>=◌, Deeper, to_option, has_instance, add, exchange, deeper}
-use Rattle.vx_terms.proofs.Same.{and_parts}
 use Rattle.vx_amounts.proofs.Amounts.{Le, Positive, Same, same-refl, same-sym, same-trans, le-refl, le-trans, le-is, sum_same, product_same, none-sum, sum-minus, sum_comm, sum_assoc, positive-le, not-positive, add-below, minus_none, difference-none}
 use Rattle.vx_amounts.proofs.Products.{product_dist, product_comm, product-none, positive_le}
 use Rattle.vx_sound_preds.specs.Bodies.{AreRigid, RigidStore, Rigid, IsPlainBody, GoodBodies}
-use Rattle.vx_sound_preds.proofs.Fitting.{step, some_is, Keeps, Opens}
+use Rattle.vx_sound_preds.proofs.Fitting.{step, Keeps, Opens}
 use Rattle.vx_sound_preds.proofs.Flats.{came, flat_more, flat_later}
 use Rattle.vx_sound_preds.proofs.Totals.{weigh, same_is, weight, total_weighs, weight_of_body, weight_grows, AtLeastNone, NoNegatives}
 use Rattle.vx_sound_preds.proofs.Grouped.{IsSingle, AreSingle, NoDebts, resource_is, weigh_grows}
@@ -30,7 +31,7 @@ least_append (x ∷ xs) ys a b p h l = ((a p h l).0, least_append xs ys (λ p h 
 
 module _ (p : Program) (h : Heap) (l : Location) where
   location_least : (f : Name) (r : Value) (a : Fraction) (es : Holdings) → Positive a → location_entry f r (PermValue a) ≡ Some es → AtLeastNone p h l es
-  location_least f (RefValue r) a es k e = subst (AtLeastNone p h l) (some_is ((At record { receiver = r; field = f }, a) ∷ []) es e) (positive_le k, tt)
+  location_least f (RefValue r) a es k e = subst (AtLeastNone p h l) (same_Some ((At record { receiver = r; field = f }, a) ∷ []) es e) (positive_le k, tt)
   location_least f (IntValue r) a es k e = cc
   location_least f (BoolValue r) a es k e = cc
   location_least f (PermValue r) a es k e = cc
@@ -47,7 +48,7 @@ module _ (p : Program) (h : Heap) (l : Location) where
   chosen_least (PermValue z) x y es a b e = cc
 
   empty_least : (es : Holdings) → Some [] ≡ Some es → AtLeastNone p h l es
-  empty_least es e = subst (AtLeastNone p h l) (some_is [] es e) tt
+  empty_least es e = subst (AtLeastNone p h l) (same_Some [] es e) tt
 
   truth_least : (b : Bool) (es : Holdings) → cond b (Some []) None ≡ Some es → AtLeastNone p h l es
   truth_least true es e = empty_least es e
@@ -63,11 +64,11 @@ module _ (p : Program) (h : Heap) (l : Location) where
   entries_least s (syntax.Instance at i xs share) es k eq =
       let y = came (values p no_applications s xs) (λ vs. option_and_then (instance_entry i vs) (value p no_applications s share)) es eq in
       let e = sym (step (instance_entry i y.it) (PermValue k.1.amount) (k.1.value_is s)) ∙ y.then in
-      subst (AtLeastNone p h l) (some_is ((Folded record { predicate = i; arguments = y.it }, k.1.amount) ∷ []) es e) (positive_le (above_none k.1), tt)
+      subst (AtLeastNone p h l) (same_Some ((Folded record { predicate = i; arguments = y.it }, k.1.amount) ∷ []) es e) (positive_le (above_none k.1), tt)
   entries_least s (Both a b) es k eq =
       let y = came (entries p s a) (λ xs. option_and_then (λ ys. Some (xs ++ ys)) (entries p s b)) es eq in
       let z = came (entries p s b) (λ ys. Some (y.it ++ ys)) es y.then in
-      subst (AtLeastNone p h l) (some_is (y.it ++ z.it) es z.then) (append_least y.it z.it (entries_least s a y.it k.0 y.is) (entries_least s b z.it k.1 z.is))
+      subst (AtLeastNone p h l) (same_Some (y.it ++ z.it) es z.then) (append_least y.it z.it (entries_least s a y.it k.0 y.is) (entries_least s b z.it k.1 z.is))
   entries_least s (Implied c a) es k eq =
       let y = came (value p no_applications s c) (λ v. plain.choose v (entries p s a) (Some [])) es eq in
       chosen_least y.it (entries p s a) (Some []) es (entries_least s a es k.1) (empty_least es) y.then
@@ -193,7 +194,7 @@ opened p h i d e is body g = go g.0 g.1 g.2
     go (suc n) x f =
         let y = came (predicate_named p i.predicate) (λ d. option_and_then (with_inner (flat p n h)) (body_entries p h i.arguments d)) x f in
         let z = came (body_entries p h i.arguments y.it) (with_inner (flat p n h)) x y.then in
-        let same : y.it ≡ d = some_is y.it d (sym y.is ∙ is) in
+        let same : y.it ≡ d = same_Some y.it d (sym y.is ∙ is) in
         let of_d : body_entries p h i.arguments d ≡ Some z.it = ap (body_entries p h i.arguments) (sym same) ∙ z.is in
         record {
           fuel = suc n;
@@ -284,7 +285,7 @@ module _ (p : Program) (good : GoodBodies p) where
       nothing e = cc
 
       ended : (x : Checked State) → to_option (x >>= λ u. Ok (with_store s.store u)) ≡ Some u → (v : State) × (x ≡ Ok v) × (with_store s.store v ≡ u)
-      ended (Ok v) e = (v, refl, some_is (with_store s.store v) u e)
+      ended (Ok v) e = (v, refl, same_Some (with_store s.store v) u e)
       ended (Err at) e = absurd (nothing e)
 
       done : (b : Predicate) (e : Assertion) → predicate_named p i.predicate ≡ Some b → b.body ≡ Some e → to_option (add p d q e (start b) >>= λ u. Ok (with_store s.store u)) ≡ Some u → Keeps p s u × Fine p u

@@ -1,6 +1,7 @@
 -- What fits has its value in every state that agrees where something is held.
 use Rattle.std.proofs.Common.{◌≡◌, pos, Bool, true, false, cond, List, [], ◌∷◌, Option, Some, None, refl, sym, ◌∙◌, ap}
 use Rattle.std.specs.Prelude.{Ok, Err, option_and_then}
+use Rattle.std.proofs.lemmas.Option.{none-some, same_Some}
 use Rattle.vx_ast.specs.declared.Place.{Place}
 use Rattle.vx_frac.specs.Fractions.{Fraction, is_positive, over}
 use Rattle.vx_ast.specs.Syntax.{Name, Program, Connective, Expr, Number, Truth, Null, Part, Variable, Not, Operate, Divide, Connect, Choose, Read, Old, Apply, Unfolding, Exprs, NoMore, More}
@@ -26,12 +27,6 @@ err_ok at b e = cc
 
 ok_is : {A : Type 0} (a b : A) → ◌≡◌ {A = Checked A} (Ok a) (Ok b) → a ≡ b
 ok_is a b e = cc
-
-none_some : {A : Type 0} (a : A) → None ≡ Some a → ⊥
-none_some a e = cc
-
-pub some_is : {A : Type 0} (a b : A) → Some a ≡ Some b → a ≡ b
-some_is a b e = cc
 
 pub undo : {A B : Type 0} (x : Checked A) (f : A → Checked B) (b : B) → (x >>= f) ≡ Ok b → Before x f b
 undo (Ok a) f b e = record { it = a; is = refl; then = e }
@@ -91,15 +86,15 @@ abbrev pub Opens : Program → (State → Type 0) → Deeper → Type 0
 Opens p P d = (i : Instance) (q : Fraction) (s u : State) → P s → has_instance s i q ≡ true → d.opened i q s ≡ Some u → Keeps p s u × P u
 
 read_here : (p : Program) (s t : State) (f : Name) (r v : Value) (l : Location) → Agrees p s t → location_of f r ≡ Some l → readable p s l ≡ Some v → plain.read p t f r ≡ Some v
-read_here p s t f (RefValue r) v l g e h = go l (some_is _ l e) (is_positive (amount s.holdings (At l))) refl h
+read_here p s t f (RefValue r) v l g e h = go l (same_Some _ l e) (is_positive (amount s.holdings (At l))) refl h
   where
     go : (l : Location) → (let m : Location = record { receiver = r; field = f } in m) ≡ l → (b : Bool) → is_positive (amount s.holdings (At l)) ≡ b → cond b (Some (value_at p s.heap l)) None ≡ Some v →
         Some (value_at p t.heap record { receiver = r; field = f }) ≡ Some v
     go l m true sign h = ap (λ (l : Location). Some (value_at p t.heap l)) m ∙ ap Some (g.heap l (held_directly p s.heap s.holdings l (record { holds = sign }))) ∙ h
-    go l m false sign h = absurd (none_some v h)
-read_here p s t f (IntValue z) v l g e h = absurd (none_some l e)
-read_here p s t f (BoolValue z) v l g e h = absurd (none_some l e)
-read_here p s t f (PermValue z) v l g e h = absurd (none_some l e)
+    go l m false sign h = absurd (none-some v h)
+read_here p s t f (IntValue z) v l g e h = absurd (none-some l e)
+read_here p s t f (BoolValue z) v l g e h = absurd (none-some l e)
+read_here p s t f (PermValue z) v l g e h = absurd (none-some l e)
 
 module _ (p : Program) (P : State → Type 0) (d : Deeper) (opens : Opens p P d) where
   mutual

@@ -1,6 +1,7 @@
 -- What lies inside an instance, and the tree of its values, are the same for all fuel that suffices.
 use Rattle.std.proofs.Common.{◌≡◌, ℕ, zero, suc, ◌+◌, true, false, List, [], ◌∷◌, ◌++◌, Option, Some, None, refl, sym, ◌∙◌, ap, subst, arith}
 use Rattle.std.specs.Prelude.{option_and_then}
+use Rattle.std.proofs.lemmas.Option.{same_Some}
 use Rattle.vx_ast.specs.Syntax.{Program, Predicate, Assertion, Pure, Points, Both, Implied, Chosen, predicate_named}
 use Rattle.vx_ast.specs.Syntax as syntax
 use Rattle.vx_frac.specs.Fractions.{Fraction}
@@ -10,7 +11,7 @@ use Rattle.vx_meaning.specs.Evaluate.{choose, value, values}
 use Rattle.vx_meaning.specs.Flatten.{no_applications, bare, body_entries, within, with_inner, flat}
 use Rattle.vx_terms.specs.Interpretations.{Tree, Empty, Pair}
 use Rattle.vx_sound.specs.Snapshots.{assertion_tree, body_tree, tree_by, IsTree}
-use Rattle.vx_sound_preds.proofs.Fitting.{step, some_is}
+use Rattle.vx_sound_preds.proofs.Fitting.{step}
 
 -- Undoing options
 
@@ -62,7 +63,7 @@ flat_later p (suc k) n h i x e = let z : suc (k + n) ≡ suc k + n = omega arith
 -- two amounts of fuel that suffice give the same
 pub flat_single : (p : Program) (m n : ℕ) (h : Heap) (i : Instance) (x y : Holdings) → flat p m h i ≡ Some x → flat p n h i ≡ Some y → x ≡ y
 flat_single p m n h i x y e f =
-    let z : n + m ≡ m + n = omega arith in some_is x y (sym (flat_later p n m h i x e) ∙ ap (λ k. flat p k h i) z ∙ flat_later p m n h i y f)
+    let z : n + m ≡ m + n = omega arith in same_Some x y (sym (flat_later p n m h i x e) ∙ ap (λ k. flat p k h i) z ∙ flat_later p m n h i y f)
 
 -- The same of trees
 
@@ -119,4 +120,4 @@ tree_later p (suc k) n h i x e = let z : suc (k + n) ≡ suc k + n = omega arith
 -- an instance has one tree at most; so snapshots of one instance agree
 pub tree_single : (p : Program) (h : Heap) (i : Instance) (t u : Tree) → IsTree p h i t → IsTree p h i u → t ≡ u
 tree_single p h i t u a b =
-    let z : b.0 + a.0 ≡ a.0 + b.0 = omega arith in some_is t u (sym (tree_later p b.0 a.0 h i t a.1) ∙ ap (λ k. tree_by p k h i) z ∙ tree_later p a.0 b.0 h i u b.1)
+    let z : b.0 + a.0 ≡ a.0 + b.0 = omega arith in same_Some t u (sym (tree_later p b.0 a.0 h i t a.1) ∙ ap (λ k. tree_by p k h i) z ∙ tree_later p a.0 b.0 h i u b.1)

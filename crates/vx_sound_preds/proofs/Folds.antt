@@ -1,6 +1,7 @@
 -- A fold leaves a state that can be; the new instance's tree is that of the body that was taken; an unfold gives back what it took.
 use Rattle.std.proofs.Common.{◌≡◌, ℕ, zero, suc, ◌+◌, Bool, true, false, cond, List, [], ◌∷◌, ◌++◌, Option, Some, None, refl, sym, ◌∙◌, ap, ap₂, subst, arith}
 use Rattle.std.specs.Prelude.{Ok, option_and_then, unwrap_or}
+use Rattle.std.proofs.lemmas.Option.{same_Some}
 use Rattle.vx_frac.specs.Fractions.{Fraction, none, full, sum}
 use Rattle.vx_ast.specs.Syntax.{Name, Program, Predicate, Assertion, Pure, Points, Both, Implied, Chosen, predicate_named}
 use Rattle.vx_ast.specs.Syntax as syntax
@@ -16,7 +17,7 @@ use Rattle.vx_amounts.proofs.Amounts.{Le, Positive, Same, same-refl, same-trans,
 use Rattle.vx_sound_preds.specs.Bodies.{AreRigid, Rigid, GoodBodies}
 use Rattle.vx_sound.specs.Snapshots.{leaf, location_leaf, truth_leaf, assertion_tree, body_tree, tree_by}
 use Rattle.vx_amounts.proofs.Products.{positive_le}
-use Rattle.vx_sound_preds.proofs.Fitting.{step, some_is}
+use Rattle.vx_sound_preds.proofs.Fitting.{step}
 use Rattle.vx_sound_preds.proofs.Flats.{came, flat_more, flat_later, inner_more}
 use Rattle.vx_sound_preds.proofs.Totals.{weigh, weigh_more, same_is, weight, total_weighs, weight_of_body}
 use Rattle.vx_sound_preds.proofs.Grouped.{IsSingle, resource_is}
@@ -189,7 +190,7 @@ module _ (p : Program) (h : Heap) (n : ℕ) where
   location_tree f (PermValue r) v es e = cc
 
   instance_tree : (i : Name) (vs : List Value) (v : Value) (es : Holdings) → instance_entry i vs v ≡ Some es → HaveTrees es → HasTree (tree_by p n h record { predicate = i; arguments = vs })
-  instance_tree i vs (PermValue a) es e k = (subst HaveTrees (sym (some_is ((Folded record { predicate = i; arguments = vs }, a) ∷ []) es e)) k).0
+  instance_tree i vs (PermValue a) es e k = (subst HaveTrees (sym (same_Some ((Folded record { predicate = i; arguments = vs }, a) ∷ []) es e)) k).0
   instance_tree i vs (IntValue a) es e k = cc
   instance_tree i vs (BoolValue a) es e k = cc
   instance_tree i vs (RefValue a) es e k = cc
@@ -219,7 +220,7 @@ module _ (p : Program) (h : Heap) (n : ℕ) where
   has_tree x (Both a b) es eq k =
       let y = came (entries p (bare x h) a) (λ xs. option_and_then (λ ys. Some (xs ++ ys)) (entries p (bare x h) b)) es eq in
       let z = came (entries p (bare x h) b) (λ ys. Some (y.it ++ ys)) es y.then in
-      let all = subst HaveTrees (sym (some_is (y.it ++ z.it) es z.then)) k in
+      let all = subst HaveTrees (sym (same_Some (y.it ++ z.it) es z.then)) k in
       let t = has_tree x a y.it y.is (trees_left y.it z.it all) in
       let u = has_tree x b z.it z.is (trees_right y.it z.it all) in
       (Pair t.0 u.0, ap₂ (λ (o m : Option Tree). option_and_then (λ t. option_and_then (λ u. Some (Pair t u)) m) o) t.1 u.1)

@@ -1,6 +1,7 @@
 -- Frames of instances: what is inside, and the tree, look only where something is held.
 use Rattle.std.proofs.Common.{◌≡◌, ℕ, zero, suc, ◌+◌, Bool, true, false, cond, [], ◌∷◌, ◌++◌, Option, Some, None, refl, sym, ◌∙◌, ap, ap₂, subst, arith}
 use Rattle.std.specs.Prelude.{option_and_then}
+use Rattle.std.proofs.lemmas.Option.{same_Some}
 use Rattle.vx_frac.specs.Fractions.{Fraction, none, full, at_most, sum, product}
 use Rattle.vx_ast.specs.Syntax.{Name, Program, Predicate, Assertion, Pure, Points, Both, Implied, Chosen, predicate_named}
 use Rattle.vx_ast.specs.Syntax as syntax
@@ -18,7 +19,7 @@ use Rattle.vx_sound_preds.specs.Covered.{AllGood, Covered}
 use Rattle.vx_sound_preds.specs.Bodies.{AreRigid, Rigid, IsPlainBody, GoodBodies}
 use Rattle.vx_sound.specs.Snapshots.{assertion_tree, body_tree, tree_by}
 use Rattle.vx_amounts.proofs.Products.{product-full, product_comm, product_sign, product_positive, positive_le}
-use Rattle.vx_sound_preds.proofs.Fitting.{step, some_is, Agrees}
+use Rattle.vx_sound_preds.proofs.Fitting.{step, Agrees}
 use Rattle.vx_sound_preds.proofs.Flats.{came, flat_later, inner_more}
 use Rattle.vx_sound_preds.proofs.Totals.{weigh, weigh_none, same_is, weight, total_weighs, inner_weighs, weight_of_body, weight_sign, weigh_sign, AtLeastNone}
 use Rattle.vx_sound_preds.proofs.Grouped.{IsSingle, AreSingle, NoDebts, resource_is, resource_self}
@@ -82,7 +83,7 @@ positive_least p h l (x ∷ xs) k = (positive_le k.0, positive_least p h l xs k.
 
 module _ (p : Program) where
   pub location_positive : (f : Name) (r : Value) (a : Fraction) (es : Holdings) → Positive a → location_entry f r (PermValue a) ≡ Some es → AllPositive es
-  location_positive f (RefValue r) a es k e = subst (AllPositive) (some_is ((At record { receiver = r; field = f }, a) ∷ []) es e) (k, tt)
+  location_positive f (RefValue r) a es k e = subst (AllPositive) (same_Some ((At record { receiver = r; field = f }, a) ∷ []) es e) (k, tt)
   location_positive f (IntValue r) a es k e = cc
   location_positive f (BoolValue r) a es k e = cc
   location_positive f (PermValue r) a es k e = cc
@@ -99,7 +100,7 @@ module _ (p : Program) where
   chosen_positive (PermValue z) x y es a b e = cc
 
   pub empty_positive : (es : Holdings) → Some [] ≡ Some es → AllPositive es
-  empty_positive es e = subst (AllPositive) (some_is [] es e) tt
+  empty_positive es e = subst (AllPositive) (same_Some [] es e) tt
 
   pub truth_positive : (b : Bool) (es : Holdings) → cond b (Some []) None ≡ Some es → AllPositive es
   truth_positive true es e = empty_positive es e
@@ -115,11 +116,11 @@ module _ (p : Program) where
   entries_positive s (syntax.Instance at i xs share) es k eq =
       let y = came (values p no_applications s xs) (λ vs. option_and_then (instance_entry i vs) (value p no_applications s share)) es eq in
       let e = sym (step (instance_entry i y.it) (PermValue k.1.amount) (k.1.value_is s)) ∙ y.then in
-      subst (AllPositive) (some_is ((Folded record { predicate = i; arguments = y.it }, k.1.amount) ∷ []) es e) ((above_none k.1), tt)
+      subst (AllPositive) (same_Some ((Folded record { predicate = i; arguments = y.it }, k.1.amount) ∷ []) es e) ((above_none k.1), tt)
   entries_positive s (Both a b) es k eq =
       let y = came (entries p s a) (λ xs. option_and_then (λ ys. Some (xs ++ ys)) (entries p s b)) es eq in
       let z = came (entries p s b) (λ ys. Some (y.it ++ ys)) es y.then in
-      subst (AllPositive) (some_is (y.it ++ z.it) es z.then) (append_positive y.it z.it (entries_positive s a y.it k.0 y.is) (entries_positive s b z.it k.1 z.is))
+      subst (AllPositive) (same_Some (y.it ++ z.it) es z.then) (append_positive y.it z.it (entries_positive s a y.it k.0 y.is) (entries_positive s b z.it k.1 z.is))
   entries_positive s (Implied c a) es k eq =
       let y = came (value p no_applications s c) (λ v. plain.choose v (entries p s a) (Some [])) es eq in
       chosen_positive y.it (entries p s a) (Some []) es (entries_positive s a es k.1) (empty_positive es) y.then
@@ -232,7 +233,7 @@ module _ (p : Program) (good : GoodBodies p) (Good : Heap → Instance → Type 
           let c = covered.fits h i d a is body gd (suc n, x, e) in
           let of : entries p s a ≡ Some es = sym (ap (side h d) body) ∙ en in
           let o = opened p h i d a is body (suc n, x, e) in
-          let one : o.entries_of ≡ es = some_is o.entries_of es (sym o.entries_are ∙ of) in
+          let one : o.entries_of ≡ es = same_Some o.entries_of es (sym o.entries_are ∙ of) in
           let adds = add_adds p full none-full (deeper p c.0) (all_open p good c.0) a s c.1 es (good.plain i.predicate d a is body) fine of (subst (AreEntries p h) one o.can) c.2 in
           let forth = subst (λ (hs : Holdings). NoDebts hs × AreSingle hs) adds.holdings adds.fine.forth in
           let singles = added_single full es [] forth.1 in

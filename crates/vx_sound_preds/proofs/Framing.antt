@@ -1,6 +1,7 @@
 -- The entries and the tree of a body look at no location of which nothing is held.
 use Rattle.std.proofs.Common.{◌≡◌, true, false, cond, List, [], ◌++◌, Option, Some, None, refl, sym, ◌∙◌, ap, ap₂, subst}
 use Rattle.std.specs.Prelude.{Ok, Err, option_and_then}
+use Rattle.std.proofs.lemmas.Option.{same_Some}
 use Rattle.vx_ast.specs.declared.Place.{Place}
 use Rattle.vx_frac.specs.Fractions.{Fraction, none, at_most, product}
 use Rattle.vx_ast.specs.Syntax.{Name, Program, Expr, Exprs, Assertion, Pure, Points, Both, Implied, Chosen, place_of}
@@ -18,7 +19,7 @@ use Rattle.vx_sound_preds.specs.Bodies.{AreRigid, IsAmount, IsPlainBody}
 use Rattle.vx_sound.specs.Snapshots.{leaf, location_leaf, truth_leaf, assertion_tree}
 use Rattle.vx_sound_preds.proofs.Grouped.{IsSingle}
 use Rattle.vx_sound_preds.proofs.Looks.{Sees, value_seen, values_seen}
-use Rattle.vx_sound_preds.proofs.Fitting.{undo, not_failed, guarded, step, some_is, Agrees, Opens, fit_framed, fit_all_framed}
+use Rattle.vx_sound_preds.proofs.Fitting.{undo, not_failed, guarded, step, Agrees, Opens, fit_framed, fit_all_framed}
 
 pub above_none : {p : Program} {share : Expr} (k : IsAmount p share) → Positive k.amount
 above_none k = record { holds = k.above }
@@ -144,7 +145,7 @@ amount_same (RefValue z) a b e f = cc
 leaf_same : (p : Program) (h g : Heap) (f : Name) (r : Value) (l : Location) → location_of f r ≡ Some l → value_at p g l ≡ value_at p h l → location_leaf p g f r ≡ location_leaf p h f r
 leaf_same p h g f (RefValue r) l e same =
     let m : Location = record { receiver = r; field = f } in
-    ap (λ v. Some (leaf v)) (subst (λ (l : Location). value_at p g l ≡ value_at p h l) (sym (some_is m l e)) same)
+    ap (λ v. Some (leaf v)) (subst (λ (l : Location). value_at p g l ≡ value_at p h l) (sym (same_Some m l e)) same)
 leaf_same p h g f (IntValue z) l e same = cc
 leaf_same p h g f (BoolValue z) l e same = cc
 leaf_same p h g f (PermValue z) l e same = cc

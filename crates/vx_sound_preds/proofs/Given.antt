@@ -1,6 +1,7 @@
 -- Where giving an assertion ends, in the state of parameters and their heap: its entries were added, and it has a tree.
 use Rattle.std.proofs.Common.{◌≡◌, inl, inr, ℕ, ◌+◌, Bool, true, false, cond, List, [], ◌∷◌, ◌++◌, Some, None, refl, sym, ◌∙◌, ap, subst, le_refl}
 use Rattle.std.specs.Prelude.{Ok, option_and_then}
+use Rattle.std.proofs.lemmas.Option.{same_Some}
 use Rattle.vx_frac.specs.Fractions.{Fraction, none, full, product}
 use Rattle.vx_ast.specs.declared.ValueType.TheVariants as type
 use Rattle.vx_ast.specs.Syntax.{Name, Declaration, Program, Predicate, Function, predicate_named, function_named, Expr, Exprs, Assertion, Pure, Points, Both, Implied, Chosen}
@@ -24,7 +25,7 @@ use Rattle.vx_sound.proofs.World.{IsTypedInstance, IsTypedResource}
 use Rattle.vx_sound.proofs.Stripped.{fit_worth, all_fit_worth}
 use Rattle.vx_sound_preds.specs.Bodies.{GoodBodies}
 use Rattle.vx_sound_preds.specs.Asking.{asking_tree, asking_entries, IsAskingTreeOf, IsAskingAmount, IsAsking}
-use Rattle.vx_sound_preds.proofs.Fitting.{step, some_is}
+use Rattle.vx_sound_preds.proofs.Fitting.{step}
 use Rattle.vx_sound_preds.proofs.Framing.{field_parts, instance_parts, amount_same, ok_same}
 use Rattle.vx_sound_preds.proofs.Adding.{Fine, added, added_append}
 use Rattle.vx_sound_preds.proofs.Exchanging.{bound_rigid}
@@ -41,7 +42,7 @@ bool_is (RefValue r) e = cc
 bool_is (PermValue q) e = cc
 
 entry_is : (f : Name) (r v : Value) (l : Location) (a : Fraction) → location_of f r ≡ Some l → amount_of v ≡ Some a → location_entry f r v ≡ Some ((At l, a) ∷ [])
-entry_is f (RefValue r) (PermValue x) l a e g = ap (λ (l : Location). Some ((At l, x) ∷ [])) (some_is _ l e) ∙ ap (λ (a : Fraction). Some ((At l, a) ∷ [])) (some_is x a g)
+entry_is f (RefValue r) (PermValue x) l a e g = ap (λ (l : Location). Some ((At l, x) ∷ [])) (same_Some _ l e) ∙ ap (λ (a : Fraction). Some ((At l, a) ∷ [])) (same_Some x a g)
 entry_is f (RefValue r) (IntValue x) l a e g = cc
 entry_is f (RefValue r) (BoolValue x) l a e g = cc
 entry_is f (RefValue r) (RefValue x) l a e g = cc
@@ -50,13 +51,13 @@ entry_is f (BoolValue r) v l a e g = cc
 entry_is f (PermValue r) v l a e g = cc
 
 leaf_is : (p : Program) (h : Heap) (f : Name) (r : Value) (l : Location) → location_of f r ≡ Some l → location_leaf p h f r ≡ Some (leaf (value_at p h l))
-leaf_is p h f (RefValue r) l e = ap (λ (l : Location). Some (leaf (value_at p h l))) (some_is _ l e)
+leaf_is p h f (RefValue r) l e = ap (λ (l : Location). Some (leaf (value_at p h l))) (same_Some _ l e)
 leaf_is p h f (IntValue r) l e = cc
 leaf_is p h f (BoolValue r) l e = cc
 leaf_is p h f (PermValue r) l e = cc
 
 folded_is : (i : Name) (vs : List Value) (v : Value) (a : Fraction) → amount_of v ≡ Some a → instance_entry i vs v ≡ Some ((Folded record { predicate = i; arguments = vs }, a) ∷ [])
-folded_is i vs (PermValue x) a e = ap (λ (a : Fraction). Some ((Folded record { predicate = i; arguments = vs }, a) ∷ [])) (some_is x a e)
+folded_is i vs (PermValue x) a e = ap (λ (a : Fraction). Some ((Folded record { predicate = i; arguments = vs }, a) ∷ [])) (same_Some x a e)
 folded_is i vs (IntValue x) a e = cc
 folded_is i vs (BoolValue x) a e = cc
 folded_is i vs (RefValue x) a e = cc

@@ -4,11 +4,11 @@ use Rattle.std.specs.Prelude.{ℤ}
 use Rattle.std.specs.Bool.{beq}
 use Rattle.std.specs.Ordering.{int_eq}
 use Rattle.std.proofs.lemmas.Int.{ints}
+use Rattle.std.proofs.lemmas.Bool.{and_parts}
 use Rattle.vx_frac.specs.Fractions.{Fraction, none, sum, product}
 use Rattle.vx_ast.specs.Syntax.{Name}
 use Rattle.vx_meaning.specs.Values.{Value, IntValue, BoolValue, RefValue, PermValue, same_value, same_values}
 use Rattle.vx_meaning.specs.States.{Holdings, Instance, Resource, At, Folded, same_resource, amount}
-use Rattle.vx_terms.proofs.Same.{and_parts}
 use Rattle.vx_amounts.proofs.Amounts.{Le, Same, same-refl, same-sym, same-trans, le-trans, le-is, sum_same, none-sum, sum_comm, sum_assoc, add-mono}
 use Rattle.vx_elements.proofs.Lists.{name_is}
 use Rattle.vx_sound.proofs.Chunks.{location_same, location_is}

@@ -1,18 +1,18 @@
 -- What a body that is inside an instance gives is inside that instance too.
 use Rattle.std.proofs.Common.{◌≡◌, ℕ, zero, suc, Bool, true, false, cond, ◌⊎◌, inl, inr, List, [], ◌∷◌, ◌++◌, Option, Some, None, refl, sym, ◌∙◌, ap, subst}
 use Rattle.std.specs.Prelude.{option_and_then}
+use Rattle.std.proofs.lemmas.Option.{same_Some}
+use Rattle.std.proofs.lemmas.Bool.{and_parts}
 use Rattle.vx_frac.specs.Fractions.{Fraction, none, sum}
 use Rattle.vx_ast.specs.Syntax.{Program, Predicate, Assertion, predicate_named}
 use Rattle.vx_meaning.specs.Values.{Value, IntValue, BoolValue, RefValue, PermValue, same_value, same_values}
 use Rattle.vx_meaning.specs.States.{Heap, Holdings, Instance, Resource, At, Folded, same_resource, amount, scaled, bind}
 use Rattle.vx_meaning.specs.Flatten.{bare, entries, body_entries, within, with_inner, flat, IsInside}
-use Rattle.vx_terms.proofs.Same.{and_parts}
 use Rattle.vx_amounts.proofs.Amounts.{Le, Positive, le-refl, none-none, positive-le, not-positive, above-add}
 use Rattle.vx_amounts.proofs.Products.{product_positive, positive_le}
 use Rattle.vx_sound.proofs.Marks.{Marks, Unmarked, Rooted, Unsaid, InnerAt, LeadsAt}
 use Rattle.vx_sound.proofs.Chunks.{resource_same}
 use Rattle.vx_sound_preds.specs.Bodies.{IsRigid, AreRigid, GoodBodies}
-use Rattle.vx_sound_preds.proofs.Fitting.{some_is}
 use Rattle.vx_sound_preds.proofs.Flats.{came, flat_single}
 use Rattle.vx_sound_preds.proofs.Grouped.{resource_is}
 use Rattle.vx_sound_preds.proofs.Frames.{AllPositive, entries_positive}
@@ -118,21 +118,21 @@ module _ (p : Program) (good : GoodBodies p) (h : Heap) where
       side (Some a) = entries p (bare (bind d.parameters i.arguments) h) a
 
       go : (b : Option Assertion) → d.body ≡ b → side b ≡ Some es → AllPositive es
-      go None body f = subst AllPositive (some_is [] es f) tt
+      go None body f = subst AllPositive (same_Some [] es f) tt
       go (Some a) body f = entries_positive p (bare (bind d.parameters i.arguments) h) a es (good.plain i.predicate d a is body) f
 
   within_positive : (n : ℕ) → ((i : Instance) (x : Holdings) → flat p n h i ≡ Some x → AllPositive x) → (r : Resource) (q : Fraction) (x : Holdings) → Positive q → within (flat p n h) r q ≡ Some x → AllPositive x
-  within_positive n ih (At l) q x k e = subst AllPositive (some_is [] x e) tt
+  within_positive n ih (At l) q x k e = subst AllPositive (same_Some [] x e) tt
   within_positive n ih (Folded i) q x k e =
       let y = came (flat p n h i) (λ inner. Some (scaled q inner)) x e in
-      subst AllPositive (some_is (scaled q y.it) x y.then) (scaled_positive q y.it k (ih i y.it y.is))
+      subst AllPositive (same_Some (scaled q y.it) x y.then) (scaled_positive q y.it k (ih i y.it y.is))
 
   inner_positive : (n : ℕ) → ((i : Instance) (x : Holdings) → flat p n h i ≡ Some x → AllPositive x) → (es x : Holdings) → AllPositive es → with_inner (flat p n h) es ≡ Some x → AllPositive x
-  inner_positive n ih [] x k e = subst AllPositive (some_is [] x e) tt
+  inner_positive n ih [] x k e = subst AllPositive (same_Some [] x e) tt
   inner_positive n ih (a ∷ rest) x k e =
       let y = came (within (flat p n h) a.0 a.1) (λ inner. option_and_then (λ more. Some (a ∷ (inner ++ more))) (with_inner (flat p n h) rest)) x e in
       let z = came (with_inner (flat p n h) rest) (λ more. Some (a ∷ (y.it ++ more))) x y.then in
-      subst AllPositive (some_is (a ∷ (y.it ++ z.it)) x z.then) (k.0, append_positive y.it z.it (within_positive n ih a.0 a.1 y.it k.0 y.is) (inner_positive n ih rest z.it k.1 z.is))
+      subst AllPositive (same_Some (a ∷ (y.it ++ z.it)) x z.then) (k.0, append_positive y.it z.it (within_positive n ih a.0 a.1 y.it k.0 y.is) (inner_positive n ih rest z.it k.1 z.is))
 
   flat_positive : (n : ℕ) (i : Instance) (x : Holdings) → flat p n h i ≡ Some x → AllPositive x
   flat_positive zero i x e = absurd (nothing x e)
@@ -147,20 +147,20 @@ module _ (p : Program) (good : GoodBodies p) (h : Heap) where
   has_entries n r (a ∷ rest) x e k =
       let y = came (within (flat p n h) a.0 a.1) (λ inner. option_and_then (λ more. Some (a ∷ (inner ++ more))) (with_inner (flat p n h) rest)) x e in
       let z = came (with_inner (flat p n h) rest) (λ more. Some (a ∷ (y.it ++ more))) x y.then in
-      subst (Has r) (some_is (a ∷ (y.it ++ z.it)) x z.then) (elim k [ inl s ↦ inl s | inr m ↦ inr (has_right r y.it z.it (has_entries n r rest z.it z.is m)) ])
+      subst (Has r) (same_Some (a ∷ (y.it ++ z.it)) x z.then) (elim k [ inl s ↦ inl s | inr m ↦ inr (has_right r y.it z.it (has_entries n r rest z.it z.is m)) ])
 
   -- What is inside one that is inside an instance is inside that instance.
   module _ (k : Instance) (rigid : AreRigid k.arguments) (m : ℕ) (y : Holdings) (all : flat p m h k ≡ Some y) (r : Resource) (has : Has r y) where
     of_it : (n : ℕ) (q : Fraction) (x : Holdings) → within (flat p n h) (Folded k) q ≡ Some x → Has r x
     of_it n q x e =
         let z = came (flat p n h k) (λ inner. Some (scaled q inner)) x e in
-        subst (Has r) (some_is (scaled q z.it) x z.then) (has_scaled r q z.it (subst (Has r) (flat_single p m n h k y z.it all z.is) has))
+        subst (Has r) (same_Some (scaled q z.it) x z.then) (has_scaled r q z.it (subst (Has r) (flat_single p m n h k y z.it all z.is) has))
 
     within_it : (n : ℕ) → ((i : Instance) (x : Holdings) → flat p n h i ≡ Some x → Has (Folded k) x → Has r x) → (c : Resource) (q : Fraction) (x : Holdings) → within (flat p n h) c q ≡ Some x → Has (Folded k) x → Has r x
-    within_it n ih (At l) q x e g = absurd (subst (Has (Folded k)) (sym (some_is [] x e)) g)
+    within_it n ih (At l) q x e g = absurd (subst (Has (Folded k)) (sym (same_Some [] x e)) g)
     within_it n ih (Folded i) q x e g =
         let z = came (flat p n h i) (λ inner. Some (scaled q inner)) x e in
-        let is = some_is (scaled q z.it) x z.then in
+        let is = same_Some (scaled q z.it) x z.then in
         subst (Has r) is (has_scaled r q z.it (ih i z.it z.is (scaled_has (Folded k) q z.it (subst (Has (Folded k)) (sym is) g))))
 
     joined : (a : Resource × Fraction) (inner more : Holdings) → (same_resource (Folded k) a.0 ≡ true → Has r inner) → (Has (Folded k) inner → Has r inner) → (Has (Folded k) more → Has r more) → Has (Folded k) (a ∷ (inner ++ more)) → Has r (a ∷ (inner ++ more))
@@ -168,11 +168,11 @@ module _ (p : Program) (good : GoodBodies p) (h : Heap) where
     joined a inner more f g w (inr e) = inr (elim (has_either (Folded k) inner more e) [ inl z ↦ has_left r inner more (g z) | inr z ↦ has_right r inner more (w z) ])
 
     inner_through : (n : ℕ) → ((i : Instance) (x : Holdings) → flat p n h i ≡ Some x → Has (Folded k) x → Has r x) → (es x : Holdings) → with_inner (flat p n h) es ≡ Some x → Has (Folded k) x → Has r x
-    inner_through n ih [] x e g = absurd (subst (Has (Folded k)) (sym (some_is [] x e)) g)
+    inner_through n ih [] x e g = absurd (subst (Has (Folded k)) (sym (same_Some [] x e)) g)
     inner_through n ih (a ∷ rest) x e g =
         let y = came (within (flat p n h) a.0 a.1) (λ inner. option_and_then (λ more. Some (a ∷ (inner ++ more))) (with_inner (flat p n h) rest)) x e in
         let z = came (with_inner (flat p n h) rest) (λ more. Some (a ∷ (y.it ++ more))) x y.then in
-        let is = some_is (a ∷ (y.it ++ z.it)) x z.then in
+        let is = same_Some (a ∷ (y.it ++ z.it)) x z.then in
         subst (Has r) is (joined a y.it z.it (λ s. of_it n a.1 y.it (subst (λ c. within (flat p n h) c a.1 ≡ Some y.it) (sym (rigid_is k a.0 rigid s)) y.is))
         (within_it n ih a.0 a.1 y.it y.is) (inner_through n ih rest z.it z.is) (subst (Has (Folded k)) (sym is) g))
 
@@ -206,7 +206,7 @@ module _ (p : Program) (good : GoodBodies p) (h : Heap) where
       let w = came (predicate_named p k.predicate) (λ d. option_and_then (with_inner (flat p n h)) (body_entries p h k.arguments d)) y f in
       let z = came (body_entries p h k.arguments w.it) (with_inner (flat p n h)) y w.then in
       let v = came (predicate_named p k.predicate) (λ d. body_entries p h k.arguments d) es body in
-      let same : z.it ≡ es = some_is z.it es (sym z.is ∙ ap (body_entries p h k.arguments) (some_is w.it v.it (sym w.is ∙ v.is)) ∙ v.then) in
+      let same : z.it ≡ es = same_Some z.it es (sym z.is ∙ ap (body_entries p h k.arguments) (same_Some w.it v.it (sym w.is ∙ v.is)) ∙ v.then) in
       all es (λ r g. has_entries n r es y (subst (λ es. with_inner (flat p n h) es ≡ Some y) same z.then) g)
     where
       one : (marks : Marks) → LeadsAt p marks h (Folded k) → (r : Resource) → Has r y → InnerAt p marks h r

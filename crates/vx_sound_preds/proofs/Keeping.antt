@@ -1,5 +1,6 @@
 -- Where bodies are covered, changes of what isn't held, writes and new locations keep what is known of what is held.
 use Rattle.std.proofs.Common.{◌≡◌, ℕ, Bool, true, false, cond, [], ◌∷◌, Some, None, refl, sym, ◌∙◌, ap, subst}
+use Rattle.std.proofs.lemmas.Option.{same_Some}
 use Rattle.vx_frac.specs.Fractions.{none, full, sum}
 use Rattle.vx_ast.specs.Syntax.{Name, Program, Predicate, predicate_named}
 use Rattle.vx_meaning.specs.Values.{Value}
@@ -15,7 +16,6 @@ use Rattle.vx_sound.proofs.World.{at_field, IsTypedInstance, World, Changing}
 use Rattle.vx_sound.proofs.Chunks.{location_is}
 use Rattle.vx_sound_preds.specs.Bodies.{GoodBodies}
 use Rattle.vx_sound_preds.specs.Covered.{Covered, IsProper}
-use Rattle.vx_sound_preds.proofs.Fitting.{some_is}
 use Rattle.vx_sound_preds.proofs.Grouped.{resource_is}
 use Rattle.vx_sound_preds.proofs.Frames.{SameAt}
 use Rattle.vx_sound_preds.proofs.Folding.{Stock}
@@ -53,7 +53,7 @@ module _ (p : Program) (good : GoodBodies p) (x : Name) (no_perm : (x : Name) (d
     proper : (i : Instance) → Positive (amount c.holdings (Folded i)) → IsProper p x c.heap i
     proper i k =
         let h = held_typed p Held c.holdings st.typed i k in
-        held_proper p x good c can.supported stocked i k h.0 (λ d e. subst (λ (d : Predicate). run.HaveTypes d.parameters i.arguments) (some_is h.1.0 d (sym h.1.1 ∙ e)) h.1.3)
+        held_proper p x good c can.supported stocked i k h.0 (λ d e. subst (λ (d : Predicate). run.HaveTypes d.parameters i.arguments) (same_Some h.1.0 d (sym h.1.1 ∙ e)) h.1.3)
 
     kept : (g : Heap) → ((n : ℕ) (i : Instance) → Positive (amount c.holdings (Folded i)) → (y : Holdings) → flat p n c.heap i ≡ Some y → SameAt p n c.heap g i) → HoldsInstances p (InClosure p x) true g c.holdings
     kept g same = of_possible p good Held true (with_heap g c) (consistent_kept p good c g stocked same can).0 st.typed st.debts

@@ -1,5 +1,6 @@
 -- What x leads to speaks of instances of predicates, and of functions, that x leads to.
 use Rattle.std.proofs.Common.{◌≡◌, true, inl, List, [], ◌∷◌, ◌++◌, Option, Some, None, refl, sym, ap, subst}
+use Rattle.std.proofs.lemmas.Option.{same_Some}
 use Rattle.vx_ast.specs.declared.ValueType.{ValueType}
 use Rattle.vx_ast.specs.Syntax.{Name, Declaration, Program, Kind, IsField, IsPredicate, IsFunction, IsMethod, Predicate, Function, Method, member_named, predicate_named, function_in, function_named, method_named, Expr, Exprs, Assertion, Pure, Points, Instance, Both, Implied, Chosen, Stmt, Declare, Assign, Write, New, Call, Inhale, Exhale, Assert, Assume, Fold, Unfold, If, While, Block, Done, Then}
 use Rattle.vx_ast.specs.Mentions.{mentioned, mentioned_in, mentioned_by}
@@ -14,12 +15,8 @@ use Rattle.vx_sound_preds.specs.Bodies.{GoodBodies}
 use Rattle.vx_sound_preds.proofs.Holding.{Applying, functions_world}
 use Rattle.vx_sound_preds.proofs.Speaking.{AllSeen as Seen, lefts as lefts_of, rights as rights_of}
 
--- the member of a function
-same_some : {A : Type 0} (a b : A) → Some a ≡ Some b → a ≡ b
-same_some a b e = cc
-
 pub function_member : (o : Option Kind) (g : Function) → function_in o ≡ Some g → o ≡ Some (IsFunction g)
-function_member (Some (IsFunction e)) g h = ap (λ (g : Function). Some (IsFunction g)) (same_some e g h)
+function_member (Some (IsFunction e)) g h = ap (λ (g : Function). Some (IsFunction g)) (same_Some e g h)
 function_member None g h = cc
 function_member (Some (IsField t)) g h = cc
 function_member (Some (IsPredicate d)) g h = cc

@@ -2,6 +2,7 @@
 -- held, and what follows is cleared there. Giving it ends there too, if it ends.
 use Rattle.std.proofs.Common.{◌≡◌, ◌⊎◌, ℕ, ◌≤◌, Bool, true, false, cond, List, [], ◌∷◌, ◌++◌, Option, Some, None, inl, inr, refl, sym, ◌∙◌, ap, subst, le_refl, le_trans}
 use Rattle.std.specs.Prelude.{Ok, option_and_then}
+use Rattle.std.proofs.lemmas.Option.{same_Some}
 use Rattle.vx_frac.specs.Fractions.{Fraction, none, product}
 use Rattle.vx_ast.specs.declared.Place.{Place}
 use Rattle.vx_ast.specs.declared.ValueType.{ValueType}
@@ -47,7 +48,7 @@ use Rattle.vx_sound.proofs.Evaluate.{PartsGo, bind_ok, eval_goes}
 use Rattle.vx_sound.proofs.Giving.{next_after_put, ScaleStands, scale_later, put_fresh, Located, located, InstanceLocated, instance_located}
 use Rattle.vx_sound_preds.specs.Bodies.{Rigid, IsPlain, IsPlainBody, GoodBodies}
 use Rattle.vx_sound_preds.specs.Asking.{asking_tree, asking_entries, IsAsking}
-use Rattle.vx_sound_preds.proofs.Fitting.{step, some_is}
+use Rattle.vx_sound_preds.proofs.Fitting.{step}
 use Rattle.vx_sound_preds.proofs.Flats.{After, came}
 use Rattle.vx_sound_preds.proofs.Same.{same_entries, plain_asks}
 use Rattle.vx_sound_preds.proofs.Asked.{held_tree, held_entries, asking_positive, read_of, read_all, share_worth}
@@ -147,7 +148,7 @@ module _ (means : Meaning) (p : Program) (good : GoodBodies p) (Held : Name → 
       let f = tree_by p k.fuel c.heap in
       let x = came (asking_tree p (applications p k.fuel) f c a) (λ t. option_and_then (λ u. Some (Pair t u)) (asking_tree p (applications p k.fuel) f c b)) k.tree k.is in
       let y = came (asking_tree p (applications p k.fuel) f c b) (λ u. Some (Pair x.it u)) k.tree x.then in
-      let whole : value i t ≡ TreeElement (Pair x.it y.it) = k.value_is ∙ ap TreeElement (sym (some_is (Pair x.it y.it) k.tree y.then)) in
+      let whole : value i t ≡ TreeElement (Pair x.it y.it) = k.value_is ∙ ap TreeElement (sym (same_Some (Pair x.it y.it) k.tree y.then)) in
       let m = parts_of t x.it y.it st k.good_term k.written whole in
       record {
         stands = m.stands;
@@ -306,11 +307,11 @@ module _ (means : Meaning) (p : Program) (good : GoodBodies p) (Held : Name → 
         r = eval_goes means world o parts t k (λ t s1. Step (on (with_unit snapshot (rules.with_fact t s1)))) st w
 
         empty : is_true r.result ≡ true → (t : Tree) → truth_leaf r.result ≡ Some t → t ≡ Empty
-        empty f t h = sym (some_is Empty t (sym (ap (λ b. cond b (Some Empty) None) f) ∙ h))
+        empty f t h = sym (same_Some Empty t (sym (ap (λ b. cond b (Some Empty) None) f) ∙ h))
 
         go : (b : Bool) → is_true r.result ≡ b → cond b (Some []) None ≡ Some es → Produced scope i s.next on c (Pure e) q es
         go false f g = cc
-        go true f g = none_produced c (Pure e) q es (some_is [] es g) (eventually r.fits (λ n h. bind_ok (λ _. Ok c) r.result h)) gives record {
+        go true f g = none_produced c (Pure e) q es (same_Some [] es g) (eventually r.fits (λ n h. bind_ok (λ _. Ok c) r.result h)) gives record {
           interp = r.interp;
           state = with_unit snapshot (rules.with_fact r.term r.state);
           extends = r.extends;
@@ -345,7 +346,7 @@ module _ (means : Meaning) (p : Program) (good : GoodBodies p) (Held : Name → 
         l = located means world o parts at f scale q after t.0 k.0 t.2 k.1 sc st w
 
         entry_is : (run.At (at_field l.reference f), l.fraction) ∷ [] ≡ es
-        entry_is = some_is ((run.At (at_field l.reference f), l.fraction) ∷ []) es
+        entry_is = same_Some ((run.At (at_field l.reference f), l.fraction) ∷ []) es
             (sym (step (location_entry f (RefValue l.reference)) (PermValue l.fraction) (share_worth p c share (PermValue l.fraction) pl.1 l.share_fits))
             ∙ read_of p c e (RefValue l.reference) l.receiver_fits m (λ r. option_and_then (location_entry f r) (plain.value p no_applications c share)) es en)
 
@@ -364,7 +365,7 @@ module _ (means : Meaning) (p : Program) (good : GoodBodies p) (Held : Name → 
         put_there None sn h = put_fresh means world l.keys l.amount (product q l.fraction) s.inner on l.stands l.amount_good l.amount_is l.sign there marked h
         put_there (Some t) sn h =
             let tree_is : sn.tree ≡ leaf (run.value_at p c.heap (at_field l.reference f)) =
-            sym (some_is (leaf (run.value_at p c.heap (at_field l.reference f))) sn.tree (read_of p c e (RefValue l.reference) l.receiver_fits sn.fuel (location_leaf p c.heap f) sn.tree sn.is)) in
+            sym (same_Some (leaf (run.value_at p c.heap (at_field l.reference f))) sn.tree (read_of p c e (RefValue l.reference) l.receiver_fits sn.fuel (location_leaf p c.heap f) sn.tree sn.is)) in
             let m = value_named f l.reference t l.stands sn.good_term sn.written (sn.value_is ∙ ap TreeElement tree_is) in
             let a_kept = value_kept means l.amount l.amount_good.settled m.extends in
             let g = put_known (keys_later means world m.later m.extends l.keys) l.amount (produced_value (field_sort p f) (Some t) l.state) (product q l.fraction) s.inner on m.stands (good_later means m.later m.extends l.amount_good)
@@ -389,7 +390,7 @@ module _ (means : Meaning) (p : Program) (good : GoodBodies p) (Held : Name → 
         l = instance_located means world o parts at x t.0.0 scale q after k.0 t.0.1 t.0.2 k.1 t.1 k.2 sc st w
 
         entry_is : (run.Folded record { predicate = x; arguments = l.results }, l.fraction) ∷ [] ≡ es
-        entry_is = some_is ((run.Folded record { predicate = x; arguments = l.results }, l.fraction) ∷ []) es
+        entry_is = same_Some ((run.Folded record { predicate = x; arguments = l.results }, l.fraction) ∷ []) es
             (sym (step (instance_entry x l.results) (PermValue l.fraction) (share_worth p c share (PermValue l.fraction) pl.1 l.share_fits))
             ∙ read_all p c xs l.results l.arguments_fit m (λ vs. option_and_then (instance_entry x vs) (plain.value p no_applications c share)) es en)
 
@@ -513,7 +514,7 @@ module _ (means : Meaning) (p : Program) (good : GoodBodies p) (Held : Name → 
         y = came (asking_entries p (applications p m) c b) (λ ys. Some (x.it ++ ys)) es x.then
 
         whole : x.it ++ y.it ≡ es
-        whole = some_is (x.it ++ y.it) es y.then
+        whole = same_Some (x.it ++ y.it) es y.then
 
         middle : run.State
         middle = run.with_holdings (added q x.it c.holdings) c
@@ -624,12 +625,12 @@ module _ (means : Meaning) (p : Program) (good : GoodBodies p) (Held : Name → 
               goes = goes_after means world g r.goes;
             }
         go false g e =
-            none_produced c (Implied d a) q es (some_is [] es (entries_are false e)) (adds_by false c e (always (λ n. refl))) (λ outcome h. gives_by false c e outcome (ends_at c outcome) h) record {
+            none_produced c (Implied d a) q es (same_Some [] es (entries_are false e)) (adds_by false c e (always (λ n. refl))) (λ outcome h. gives_by false c e outcome (ends_at c outcome) h) record {
               interp = g.interp;
               state = with_unit snapshot g.state;
               extends = g.extends;
               later = subst (λ n. s.next ≤ n) (sym (next_unit snapshot g.state)) g.later;
-              stands = unit_stands (Implied d a) snapshot g.stands (snapshot_later s.next g.state.next i g.interp c (Implied d a) snapshot g.later g.extends sn) (λ m f t h. sym (some_is Empty t (tree_is false e m f t h)));
+              stands = unit_stands (Implied d a) snapshot g.stands (snapshot_later s.next g.state.next i g.interp c (Implied d a) snapshot g.later g.extends sn) (λ m f t h. sym (same_Some Empty t (tree_is false e m f t h)));
               cleared = (f.back_right g.state g.cleared).1;
             }
 

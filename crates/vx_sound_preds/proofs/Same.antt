@@ -1,6 +1,7 @@
 -- Of what applies no function the asking tree is the tree; and more fuel leaves it as it is.
 use Rattle.std.proofs.Common.{◌≡◌, ℕ, ◌+◌, true, false, cond, List, [], ◌++◌, Option, Some, None, refl, sym, ◌∙◌, ap, ap₂, arith}
 use Rattle.std.specs.Prelude.{option_and_then}
+use Rattle.std.proofs.lemmas.Option.{same_Some}
 use Rattle.vx_ast.specs.Syntax.{Name, Program, Assertion, Pure, Points, Both, Implied, Chosen}
 use Rattle.vx_ast.specs.Syntax as syntax
 use Rattle.vx_terms.specs.Interpretations.{Tree, Empty, Pair}
@@ -13,7 +14,7 @@ use Rattle.vx_sound.proofs.Fuel.{value_more, values_more, applications_later}
 use Rattle.vx_sound.proofs.Fuel as fuel
 use Rattle.vx_sound_preds.specs.Bodies.{AreRigid, Rigid, IsPlain, ArePlain, IsAmount, IsPlainBody}
 use Rattle.vx_sound_preds.specs.Asking.{Says, AllSay, HasRigidArguments, asking_tree, asking_entries, IsAskingTreeOf, IsAskingAmount, IsAsking}
-use Rattle.vx_sound_preds.proofs.Fitting.{step, some_is}
+use Rattle.vx_sound_preds.proofs.Fitting.{step}
 use Rattle.vx_sound_preds.proofs.Flats.{Covers, came, tree_later}
 use Rattle.vx_sound_preds.proofs.Looks.{Sees, plain_value, plain_values}
 
@@ -157,7 +158,7 @@ module _ (p : Program) where
   pub one_named : (n m : ℕ) (s : State) (a : Assertion) (xs ys : Holdings) → asking_entries p (applications p n) s a ≡ Some xs → asking_entries p (applications p m) s a ≡ Some ys → xs ≡ ys
   one_named n m s a xs ys e f =
       let z : m + n ≡ n + m = omega arith in
-      some_is xs ys (sym (entries_later m n s a xs e) ∙ ap (λ (k : ℕ). asking_entries p (applications p k) s a) z ∙ entries_later n m s a ys f)
+      same_Some xs ys (sym (entries_later m n s a xs e) ∙ ap (λ (k : ℕ). asking_entries p (applications p k) s a) z ∙ entries_later n m s a ys f)
 
   pub asking_later : (k n : ℕ) (s : State) (a : Assertion) (t : Tree) → asking_tree p (applications p n) (tree_by p n s.heap) s a ≡ Some t → asking_tree p (applications p (k + n)) (tree_by p (k + n) s.heap) s a ≡ Some t
   asking_later k n s a t e = asking_more p (applications p n) (applications p (k + n)) (applications_later p k n) (tree_by p n s.heap) (tree_by p (k + n) s.heap) (tree_later p k n s.heap) s a t e
@@ -165,4 +166,4 @@ module _ (p : Program) where
   pub asking_single : (a : Assertion) (s : State) (t u : Tree) → IsAskingTreeOf p s a t → IsAskingTreeOf p s a u → t ≡ u
   asking_single a s t u x y =
       let z : y.0 + x.0 ≡ x.0 + y.0 = omega arith in
-      some_is t u (sym (asking_later y.0 x.0 s a t x.1) ∙ ap (λ (k : ℕ). asking_tree p (applications p k) (tree_by p k s.heap) s a) z ∙ asking_later x.0 y.0 s a u y.1)
+      same_Some t u (sym (asking_later y.0 x.0 s a t x.1) ∙ ap (λ (k : ℕ). asking_tree p (applications p k) (tree_by p k s.heap) s a) z ∙ asking_later x.0 y.0 s a u y.1)

@@ -1,6 +1,7 @@
 -- What taking a body does, and that a fold keeps the state one that can be.
 use Rattle.std.proofs.Common.{◌≡◌, Bool, true, false, cond, List, [], ◌∷◌, ◌++◌, Some, None, refl, sym, ◌∙◌, ap, ap₂, subst}
 use Rattle.std.specs.Prelude.{Ok, option_and_then}
+use Rattle.std.proofs.lemmas.Option.{same_Some}
 use Rattle.vx_ast.specs.declared.Place.{Place}
 use Rattle.vx_frac.specs.Fractions.{Fraction, none, at_most, sum, minus, product}
 use Rattle.vx_ast.specs.Syntax.{Name, Program, Assertion, Pure, Points, Both, Implied, Chosen, place_of}
@@ -14,7 +15,7 @@ use Rattle.vx_meaning.specs.Fits.{Checked, ◌>>=◌, guard, Deeper, choose, loc
 use Rattle.vx_amounts.proofs.Amounts.{Le, Positive, Same, same-refl, same-sym, same-trans, le-trans, sum_same, product_same, none-sum, sum-minus, sum_comm, sum_assoc, positive-le, add-below, minus_none, difference-none}
 use Rattle.vx_amounts.proofs.Products.{product_comm, product_sum, product_dist, product_assoc, product_sign, product_positive, product-none, positive_le}
 use Rattle.vx_sound_preds.specs.Bodies.{Rigid, IsPlainBody}
-use Rattle.vx_sound_preds.proofs.Fitting.{step, some_is, undo, guarded, Opens}
+use Rattle.vx_sound_preds.proofs.Fitting.{step, undo, guarded, Opens}
 use Rattle.vx_sound_preds.proofs.Totals.{weigh, same_is}
 use Rattle.vx_sound_preds.proofs.Grouped.{IsSingle, resource_is}
 use Rattle.vx_sound_preds.proofs.Framing.{above_none, field_parts, instance_parts, ok_same, amount_same, failed}
@@ -100,7 +101,7 @@ module _ (p : Program) (q : Fraction) (scale : Positive q) where
   located : (f : Name) (r v : Value) (l : Location) (a : Fraction) → location_of f r ≡ Some l → amount_of v ≡ Some a → location_entry f r v ≡ Some ((At l, a) ∷ [])
   located f (RefValue r) (PermValue x) l a e g =
       let m : Location = record { receiver = r; field = f } in
-      ap₂ (λ (l : Location) (a : Fraction). let y : Holdings = (At l, a) ∷ [] in Some y) (some_is m l e) (some_is x a g)
+      ap₂ (λ (l : Location) (a : Fraction). let y : Holdings = (At l, a) ∷ [] in Some y) (same_Some m l e) (same_Some x a g)
   located f (RefValue r) (IntValue x) l a e g = cc
   located f (RefValue r) (BoolValue x) l a e g = cc
   located f (RefValue r) (RefValue x) l a e g = cc
@@ -111,7 +112,7 @@ module _ (p : Program) (q : Fraction) (scale : Positive q) where
   folded_in : (i : Name) (vs : List Value) (v : Value) (a : Fraction) → amount_of v ≡ Some a → instance_entry i vs v ≡ Some ((Folded record { predicate = i; arguments = vs }, a) ∷ [])
   folded_in i vs (PermValue x) a g =
       let j : Instance = record { predicate = i; arguments = vs } in
-      ap (λ (a : Fraction). let y : Holdings = (Folded j, a) ∷ [] in Some y) (some_is x a g)
+      ap (λ (a : Fraction). let y : Holdings = (Folded j, a) ∷ [] in Some y) (same_Some x a g)
   folded_in i vs (IntValue x) a g = cc
   folded_in i vs (BoolValue x) a g = cc
   folded_in i vs (RefValue x) a g = cc

@@ -1,6 +1,7 @@
 -- A total is a sum over what is held, each by its weight: what one whole of it holds of the location.
 use Rattle.std.proofs.Common.{◌≡◌, ℕ, zero, suc, Bool, true, false, cond, [], ◌∷◌, ◌++◌, Option, Some, None, refl, sym, ◌∙◌, ap, subst}
 use Rattle.std.specs.Prelude.{option_and_then, unwrap_or}
+use Rattle.std.proofs.lemmas.Option.{same_Some}
 use Rattle.vx_frac.specs.Fractions.{Fraction, none, full, sum, product}
 use Rattle.vx_ast.specs.Syntax.{Program, predicate_named}
 use Rattle.vx_meaning.specs.States.{Heap, Holdings, Location, Instance, Resource, At, Folded, same_location, same_resource, amount, scaled}
@@ -8,7 +9,7 @@ use Rattle.vx_meaning.specs.Flatten.{body_entries, within, with_inner, flat}
 use Rattle.vx_meaning.specs.Consistent.{spread, total}
 use Rattle.vx_amounts.proofs.Amounts.{Le, Same, same-refl, same-sym, same-trans, le-refl, le-trans, le-is, sum_same, none-sum, sum_comm, sum_assoc, none-none}
 use Rattle.vx_amounts.proofs.Products.{product-full, product-none, product_assoc, product_sum, product_sign}
-use Rattle.vx_sound_preds.proofs.Fitting.{step, some_is}
+use Rattle.vx_sound_preds.proofs.Fitting.{step}
 use Rattle.vx_sound_preds.proofs.Flats.{came, flat_more}
 
 pub same_is : {a b : Fraction} → a ≡ b → Same a b
@@ -91,13 +92,13 @@ module _ (p : Program) (h : Heap) (l : Location) where
   -- what is inside, by the weights of the entries
   pub inner_weighs : (n : ℕ) (es x : Holdings) → with_inner (flat p n h) es ≡ Some x → Same (amount x (At l)) (weigh (weight n) es)
   unfolding weigh
-  inner_weighs n [] x e = same_is (ap (λ (y : Holdings). amount y (At l)) (sym (some_is [] x e)))
+  inner_weighs n [] x e = same_is (ap (λ (y : Holdings). amount y (At l)) (sym (same_Some [] x e)))
   inner_weighs n (a ∷ rest) x e =
       let y = came (within (flat p n h) a.0 a.1) (λ inner. option_and_then (λ more. Some (a ∷ (inner ++ more))) (with_inner (flat p n h) rest)) x e in
       let z = came (with_inner (flat p n h) rest) (λ more. Some (a ∷ (y.it ++ more))) x y.then in
       let w = entry_weight n a.0 a.1 in
       let same : Same (amount (a ∷ y.it) (At l)) (product a.1 (weight n a.0)) = subst (λ (o : Option Holdings). Same (amount (a ∷ unwrap_or o []) (At l)) (product a.1 (weight n a.0))) y.is w in
-      same-trans (same_is (ap (λ (y : Holdings). amount y (At l)) (sym (some_is (a ∷ (y.it ++ z.it)) x z.then))))
+      same-trans (same_is (ap (λ (y : Holdings). amount y (At l)) (sym (same_Some (a ∷ (y.it ++ z.it)) x z.then))))
       (same-trans (amount_append (a ∷ y.it) z.it (At l)) (sum_same same (inner_weighs n rest z.it z.is)))
 
   -- the weight of an instance is that of its body's entries
@@ -107,7 +108,7 @@ module _ (p : Program) (h : Heap) (l : Location) where
   weight_of_body n i x e es f =
       let y = came (predicate_named p i.predicate) (λ d. option_and_then (with_inner (flat p n h)) (body_entries p h i.arguments d)) x e in
       let z = came (body_entries p h i.arguments y.it) (with_inner (flat p n h)) x y.then in
-      let same : z.it ≡ es = some_is z.it es (sym z.is ∙ sym (step (λ d. body_entries p h i.arguments d) y.it y.is) ∙ f) in
+      let same : z.it ≡ es = same_Some z.it es (sym z.is ∙ sym (step (λ d. body_entries p h i.arguments d) y.it y.is) ∙ f) in
       subst (λ (es : Holdings). Same (weight (suc n) (Folded i)) (weigh (weight n) es)) same
       (same-trans (same_is (ap (λ (o : Option Holdings). amount (unwrap_or o []) (At l)) e)) (inner_weighs n z.it x z.then))
 

@@ -1,5 +1,6 @@
 -- What a consume builds of an assertion stands for the tree of the assertion's values.
 use Rattle.std.proofs.Common.{◌≡◌, ℕ, true, false, Some, sym, ◌∙◌, ap, subst, le_refl}
+use Rattle.std.proofs.lemmas.Option.{same_Some}
 use Rattle.vx_frac.specs.Fractions.{Fraction}
 use Rattle.vx_ast.specs.Syntax.{Name, Program, Predicate, predicate_named, Expr, Assertion, Pure, Points, Both, Implied, Chosen}
 use Rattle.vx_ast.specs.Syntax as syntax
@@ -26,7 +27,7 @@ use Rattle.vx_sound.proofs.Evaluate.{PartsGo}
 use Rattle.vx_sound.proofs.Assertions.{Builds, built_pure, built_field, built_instance, built_both, built_implied, built_nothing, built_left, built_right}
 use Rattle.vx_sound_preds.specs.Bodies.{GoodBodies}
 use Rattle.vx_sound_preds.specs.Asking.{asking_tree, IsAskingTreeOf, IsAskingAmount, IsAsking}
-use Rattle.vx_sound_preds.proofs.Fitting.{step, some_is}
+use Rattle.vx_sound_preds.proofs.Fitting.{step}
 use Rattle.vx_sound_preds.proofs.Holding.{Applying, functions_world}
 use Rattle.vx_sound_preds.proofs.Asked.{above, both_trees, condition_tree, instance_tree}
 
@@ -47,7 +48,7 @@ module _ (means : Meaning) (p : Program) (good : GoodBodies p) (Held : Name → 
   amounts a b e = cc
 
   amount_positive : (c : run.State) (share : Expr) (a : Fraction) (k : IsAskingAmount p share) → Fits p c share (PermValue a) → Positive a
-  amount_positive c share a k f = subst Positive (sym (amounts a k.amount (some_is (PermValue a) (PermValue k.amount) (sym (worth c share (PermValue a) f) ∙ k.value_is (applications p f.0) c)))) (above k)
+  amount_positive c share a k f = subst Positive (sym (amounts a k.amount (same_Some (PermValue a) (PermValue k.amount) (sym (worth c share (PermValue a) f) ∙ k.value_is (applications p f.0) c)))) (above k)
 
   module _ (o : Outer) (parts : PartsGo means world o) (n : ℕ) (i : Interpretation) (st : IsStandard i) (c : run.State) where
     pub builds_tree : (a : Assertion) (t : Term) → IsAsking p a → Builds means world o parts n i c a t → TreeOf i c a t

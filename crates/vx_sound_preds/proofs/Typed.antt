@@ -1,6 +1,7 @@
 -- A typed program has good bodies of predicates.
 use Rattle.std.proofs.Common.{◌≡◌, inl, inr, zero, suc, pos, negsuc, Bool, true, false, cond, List, [], ◌∷◌, ◌++◌, Option, Some, None, refl, sym, ◌∙◌, ap, subst}
 use Rattle.std.specs.Prelude.{ℤ, option_and_then}
+use Rattle.std.proofs.lemmas.Option.{same_Some}
 use Rattle.vx_ast.specs.declared.ValueType.{ValueType}
 use Rattle.vx_ast.specs.declared.ValueType.TheVariants.{Perm}
 use Rattle.vx_ast.specs.Syntax.{Name, same_name, Declaration, Program, Function, Connective, Operator, Equal, Less, LessEqual, Greater, GreaterEqual, Add, Subtract, Multiply, Division, Quotient, Remainder, Expr, Exprs, Assertion, Pure, Points, Both, Implied, Chosen, function_named}
@@ -16,7 +17,6 @@ use Rattle.vx_meaning.specs.Evaluate.{choose, connected, read, value, values}
 use Rattle.vx_meaning.specs.Flatten.{no_applications}
 use Rattle.vx_elements.proofs.Values.{value_typed}
 use Rattle.vx_sound_preds.specs.Bodies.{IsRigid, AreRigid, RigidStore, Rigid, IsPlain, ArePlain, IsAmount, IsPlainBody, GoodBodies}
-use Rattle.vx_sound_preds.proofs.Fitting.{some_is}
 use Rattle.vx_sound_preds.proofs.Flats.{came}
 
 -- Names in lists
@@ -96,13 +96,13 @@ module _ (p : Program) where
   found x (y ∷ xs) v h e = go (same_name x y.0) (found x xs v h.1) e
     where
       go : (b : Bool) → (lookup x xs ≡ Some v → IsRigid v) → cond b (Some y.1) (lookup x xs) ≡ Some v → IsRigid v
-      go true f e = subst IsRigid (some_is y.1 v e) h.0
+      go true f e = subst IsRigid (same_Some y.1 v e) h.0
       go false f e = f e
 
   read_rigid : (f : Name) (s : State) (r v : Value) → ((field_type p f ≡ Perm) → ⊥) → read p s f r ≡ Some v → IsRigid v
   read_rigid f s (RefValue r) v k e =
       let l : Location = record { receiver = r; field = f } in
-      subst IsRigid (some_is (value_at p s.heap l) v e) (rigid_is (value_at p s.heap l) (λ is. k (sym (value_typed p s.heap l) ∙ is)))
+      subst IsRigid (same_Some (value_at p s.heap l) v e) (rigid_is (value_at p s.heap l) (λ is. k (sym (value_typed p s.heap l) ∙ is)))
   read_rigid f s (IntValue r) v k e = cc
   read_rigid f s (BoolValue r) v k e = cc
   read_rigid f s (PermValue r) v k e = cc
@@ -115,7 +115,7 @@ module _ (p : Program) where
   picked (PermValue z) x y w h k e = cc
 
   negated_rigid : (v w : Value) → negated v ≡ Some w → IsRigid w
-  negated_rigid (BoolValue b) w e = subst IsRigid (some_is _ w e) tt
+  negated_rigid (BoolValue b) w e = subst IsRigid (same_Some _ w e) tt
   negated_rigid (IntValue b) w e = cc
   negated_rigid (RefValue b) w e = cc
   negated_rigid (PermValue b) w e = cc
@@ -180,16 +180,16 @@ module _ (p : Program) where
     where
       go : (b : Bool) → cond b o (Some (BoolValue (without_right c))) ≡ Some w → IsRigid w
       go true e = h e
-      go false e = subst IsRigid (some_is (BoolValue (without_right c)) w e) tt
+      go false e = subst IsRigid (same_Some (BoolValue (without_right c)) w e) tt
   connected_rigid c (IntValue a) o w h e = cc
   connected_rigid c (RefValue a) o w h e = cc
   connected_rigid c (PermValue a) o w h e = cc
 
   module _ (s : State) (r : Rigid s) where
     rigid : {scope : Scope} {e : Expr} {t : ValueType} → HasType p scope e t → ((t ≡ Perm) → ⊥) → IsPlain e → (v : Value) → value p no_applications s e ≡ Some v → IsRigid v
-    rigid (number at n) k pl v e = subst IsRigid (some_is _ v e) tt
-    rigid (truth) k pl v e = subst IsRigid (some_is _ v e) tt
-    rigid (nulls at) k pl v e = subst IsRigid (some_is _ v e) tt
+    rigid (number at n) k pl v e = subst IsRigid (same_Some _ v e) tt
+    rigid (truth) k pl v e = subst IsRigid (same_Some _ v e) tt
+    rigid (nulls at) k pl v e = subst IsRigid (same_Some _ v e) tt
     rigid (part at n d l) k pl v e = absurd (k refl)
     rigid (variable at x is) k pl v e = found x s.store v r e
     rigid (nots {e = a} h) k pl v e =
@@ -218,11 +218,11 @@ module _ (p : Program) where
     rigid (unfoldings i d is hs hq h) k pl v e = rigid h k pl.2 v e
 
     all_rigid : {scope : Scope} {es : Exprs} {ds : List Declaration} → HaveTypes p scope es ds → HaveNoPerm ds → ArePlain es → (vs : List Value) → values p no_applications s es ≡ Some vs → AreRigid vs
-    all_rigid no_more k pl vs e = subst AreRigid (some_is [] vs e) tt
+    all_rigid no_more k pl vs e = subst AreRigid (same_Some [] vs e) tt
     all_rigid (more {e = a} {es = es} h hs) k pl vs e =
         let x = came (value p no_applications s a) (λ v. option_and_then (λ vs. Some (v ∷ vs)) (values p no_applications s es)) vs e in
         let y = came (values p no_applications s es) (λ vs. Some (x.it ∷ vs)) vs x.then in
-        subst AreRigid (some_is (x.it ∷ y.it) vs y.then) (rigid h k.0 pl.0 x.it x.is, all_rigid hs k.1 pl.1 y.it y.is)
+        subst AreRigid (same_Some (x.it ∷ y.it) vs y.then) (rigid h k.0 pl.0 x.it x.is, all_rigid hs k.1 pl.1 y.it y.is)
 
   amount_is : (e : Expr) → IsPlain e → IsConstantAmount e → IsAmount p e
   amount_is e pl c = record { plain = pl; amount = c.0; above = c.2; value_is = c.1 p no_applications }

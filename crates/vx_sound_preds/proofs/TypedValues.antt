@@ -2,6 +2,7 @@
 -- function's type.
 use Rattle.std.proofs.Common.{◌≡◌, ℕ, zero, suc, pos, List, [], ◌∷◌, Option, Some, None, sym, ◌∙◌, ap, subst}
 use Rattle.std.specs.Prelude.{option_and_then}
+use Rattle.std.proofs.lemmas.Option.{same_Some}
 use Rattle.vx_ast.specs.declared.ValueType.{ValueType}
 use Rattle.vx_ast.specs.declared.ValueType.TheVariants.{Int}
 use Rattle.vx_ast.specs.declared.ValueType.TheVariants as type
@@ -12,7 +13,6 @@ use Rattle.vx_meaning.specs.States as run
 use Rattle.vx_meaning.specs.States.{State, Store, lookup, bind, value_at, with_store, at_old}
 use Rattle.vx_meaning.specs.Evaluate.{choose, connected, read, applications, value, values}
 use Rattle.vx_elements.proofs.Values.{operated_is, value_typed, field_type_is, perm_value_is}
-use Rattle.vx_sound_preds.proofs.Fitting.{some_is}
 use Rattle.vx_sound_preds.proofs.Flats.{came}
 use Rattle.vx_sound_preds.proofs.Types.{some_interpretation, of_is, negated_type, divided_type, connected_type, picked_type, found_type}
 
@@ -27,7 +27,7 @@ module _ (p : Program) (typed : (f : Name) (g : Function) → function_named p f
   read_type : (s : State) (f : Name) (t : ValueType) (r v : Value) → run.field_type p f ≡ t → read p s f r ≡ Some v → type_of v ≡ t
   read_type s f t (RefValue r) v is e =
       let l : run.Location = record { receiver = r; field = f } in
-      ap type_of (sym (some_is (value_at p s.heap l) v e)) ∙ value_typed p s.heap l ∙ is
+      ap type_of (sym (same_Some (value_at p s.heap l) v e)) ∙ value_typed p s.heap l ∙ is
   read_type s f t (IntValue r) v is e = cc
   read_type s f t (BoolValue r) v is e = cc
   read_type s f t (PermValue r) v is e = cc
@@ -42,10 +42,10 @@ module _ (p : Program) (typed : (f : Name) (g : Function) → function_named p f
 
     mutual
       pub has_type : (s : State) {ds : Scope} → AreTyped ds s.store → {e : Expr} {t : ValueType} → HasType p ds e t → (v : Value) → value p (applications p n) s e ≡ Some v → type_of v ≡ t
-      has_type s k (number at n) v e = ap type_of (sym (some_is _ v e))
-      has_type s k (truth) v e = ap type_of (sym (some_is _ v e))
-      has_type s k (nulls at) v e = ap type_of (sym (some_is _ v e))
-      has_type s k (part at n d l) v e = ap type_of (sym (some_is _ v e))
+      has_type s k (number at n) v e = ap type_of (sym (same_Some _ v e))
+      has_type s k (truth) v e = ap type_of (sym (same_Some _ v e))
+      has_type s k (nulls at) v e = ap type_of (sym (same_Some _ v e))
+      has_type s k (part at n d l) v e = ap type_of (sym (same_Some _ v e))
       has_type s k (variable at x {t = t} is) v e = k x t v is e
       has_type s k (nots {e = a} h) v e =
           let x = came (At s a) negated v e in
@@ -54,11 +54,11 @@ module _ (p : Program) (typed : (f : Name) (g : Function) → function_named p f
           let x = came (At s a) (λ v. option_and_then (λ w. operated op v w) (At s b)) v e in
           let y = came (At s b) (λ w. operated op x.it w) v x.then in
           let z = operated_is some_interpretation op x.it y.it t o (has_type s k ka x.it x.is) (has_type s k kb y.it y.is) in
-          ap type_of (sym (some_is z.result v (sym z.is ∙ y.then))) ∙ z.typed
+          ap type_of (sym (same_Some z.result v (sym z.is ∙ y.then))) ∙ z.typed
       has_type s k (scales place n {b = b} kb) v e =
           let y = came (At s b) (λ w. operated Multiply (IntValue (pos n)) w) v e in
           let q = perm_value_is y.it (has_type s k kb y.it y.is) in
-          ap type_of (sym (some_is _ v (sym (ap (operated Multiply (IntValue (pos n))) q.1) ∙ y.then)))
+          ap type_of (sym (same_Some _ v (sym (ap (operated Multiply (IntValue (pos n))) q.1) ∙ y.then)))
       has_type s k (divides {op = op} {a = a} {b = b} ka kb) v e =
           let x = came (At s a) (λ v. option_and_then (λ w. divided op v w) (At s b)) v e in
           let y = came (At s b) (λ w. divided op x.it w) v x.then in
@@ -79,11 +79,11 @@ module _ (p : Program) (typed : (f : Name) (g : Function) → function_named p f
       has_type s k (unfoldings i d is hs hq h) v e = has_type s k h v e
 
       pub have_types : (s : State) {ds : Scope} → AreTyped ds s.store → {es : Exprs} {fs : List Declaration} → HaveTypes p ds es fs → (ws : List Value) → values p (applications p n) s es ≡ Some ws → run.HaveTypes fs ws
-      have_types s k no_more ws e = subst (run.HaveTypes []) (some_is [] ws e) tt
+      have_types s k no_more ws e = subst (run.HaveTypes []) (same_Some [] ws e) tt
       have_types s k (more {e = a} {es = es} {d = d} {ds = fs} h hs) ws e =
           let x = came (At s a) (λ v. option_and_then (λ vs. Some (v ∷ vs)) (values p (applications p n) s es)) ws e in
           let y = came (values p (applications p n) s es) (λ vs. Some (x.it ∷ vs)) ws x.then in
-          subst (run.HaveTypes (d ∷ fs)) (some_is (x.it ∷ y.it) ws y.then) (has_type s k h x.it x.is, have_types s k hs y.it y.is)
+          subst (run.HaveTypes (d ∷ fs)) (same_Some (x.it ∷ y.it) ws y.then) (has_type s k h x.it x.is, have_types s k hs y.it y.is)
 
   pub applications_typed : (n : ℕ) → ApplicationsTyped n
   applications_typed zero f g vs s v is types e = nothing e

@@ -1,6 +1,7 @@
 -- What has a type has its values, where the variables have values of their types.
 use Rattle.std.proofs.Common.{◌≡◌, ℤ, pos, negsuc, zero, suc, Bool, true, false, cond, List, [], ◌∷◌, Option, Some, None, refl, sym, ◌∙◌, ap, subst}
 use Rattle.std.specs.Prelude.{option_and_then}
+use Rattle.std.proofs.lemmas.Option.{same_Some}
 use Rattle.vx_ast.specs.declared.ValueType.{ValueType}
 use Rattle.vx_ast.specs.declared.ValueType.TheVariants.{Int}
 use Rattle.vx_ast.specs.declared.ValueType.TheVariants as type
@@ -14,7 +15,6 @@ use Rattle.vx_meaning.specs.Flatten.{no_applications, bare}
 use Rattle.vx_terms.specs.Interpretations.{Interpretation, TreeElement, RefLeaf}
 use Rattle.vx_elements.proofs.Values.{operated_is, value_typed, field_type_is, perm_value_is}
 use Rattle.vx_sound_preds.specs.Bodies.{IsPlain, ArePlain}
-use Rattle.vx_sound_preds.proofs.Fitting.{some_is}
 use Rattle.vx_sound_preds.proofs.Flats.{came}
 
 -- any interpretation in which null is a reference
@@ -55,7 +55,7 @@ connected_type c (BoolValue a) o w h e = go (needs_right c a) e
   where
     go : (b : Bool) → cond b o (Some (BoolValue (without_right c))) ≡ Some w → type_of w ≡ type.Bool
     go true e = h e
-    go false e = ap type_of (sym (some_is (BoolValue (without_right c)) w e))
+    go false e = ap type_of (sym (same_Some (BoolValue (without_right c)) w e))
 connected_type c (IntValue a) o w h e = cc
 connected_type c (RefValue a) o w h e = cc
 connected_type c (PermValue a) o w h e = cc
@@ -76,7 +76,7 @@ found_type x t (d ∷ ds) (w ∷ vs) v h e f = go (same_name x d.name) e f (foun
     types a b e = cc
 
     go : (b : Bool) → cond b (Some d.of) (type_in x ds) ≡ Some t → cond b (Some w) (lookup x (bind ds vs)) ≡ Some v → (type_in x ds ≡ Some t → lookup x (bind ds vs) ≡ Some v → type_of v ≡ t) → type_of v ≡ t
-    go true e f k = ap type_of (sym (some_is w v f)) ∙ h.0 ∙ types d.of t e
+    go true e f k = ap type_of (sym (same_Some w v f)) ∙ h.0 ∙ types d.of t e
     go false e f k = k e f
 
 module _ (p : Program) (ds : List Declaration) (vs : List Value) (typed : run.HaveTypes ds vs) (h : Heap) where
@@ -86,16 +86,16 @@ module _ (p : Program) (ds : List Declaration) (vs : List Value) (typed : run.Ha
   read_type : (f : Name) (t : ValueType) (r v : Value) → run.field_type p f ≡ t → read p (bare (bind ds vs) h) f r ≡ Some v → type_of v ≡ t
   read_type f t (RefValue r) v is e =
       let l : run.Location = record { receiver = r; field = f } in
-      ap type_of (sym (some_is (value_at p h l) v e)) ∙ value_typed p h l ∙ is
+      ap type_of (sym (same_Some (value_at p h l) v e)) ∙ value_typed p h l ∙ is
   read_type f t (IntValue r) v is e = cc
   read_type f t (BoolValue r) v is e = cc
   read_type f t (PermValue r) v is e = cc
 
   pub has_type : {e : Expr} {t : ValueType} → HasType p ds e t → IsPlain e → (v : Value) → value p no_applications s e ≡ Some v → type_of v ≡ t
-  has_type (number at n) pl v e = ap type_of (sym (some_is _ v e))
-  has_type (truth) pl v e = ap type_of (sym (some_is _ v e))
-  has_type (nulls at) pl v e = ap type_of (sym (some_is _ v e))
-  has_type (part at n d l) pl v e = ap type_of (sym (some_is _ v e))
+  has_type (number at n) pl v e = ap type_of (sym (same_Some _ v e))
+  has_type (truth) pl v e = ap type_of (sym (same_Some _ v e))
+  has_type (nulls at) pl v e = ap type_of (sym (same_Some _ v e))
+  has_type (part at n d l) pl v e = ap type_of (sym (same_Some _ v e))
   has_type (variable at x {t = t} is) pl v e = found_type x t ds vs v typed is e
   has_type (nots {e = a} k) pl v e =
       let x = came (value p no_applications s a) negated v e in
@@ -104,11 +104,11 @@ module _ (p : Program) (ds : List Declaration) (vs : List Value) (typed : run.Ha
       let x = came (value p no_applications s a) (λ v. option_and_then (λ w. operated op v w) (value p no_applications s b)) v e in
       let y = came (value p no_applications s b) (λ w. operated op x.it w) v x.then in
       let z = operated_is some_interpretation op x.it y.it t o (has_type ka pl.0 x.it x.is) (has_type kb pl.1 y.it y.is) in
-      ap type_of (sym (some_is z.result v (sym z.is ∙ y.then))) ∙ z.typed
+      ap type_of (sym (same_Some z.result v (sym z.is ∙ y.then))) ∙ z.typed
   has_type (scales place n {b = b} kb) pl v e =
       let y = came (value p no_applications s b) (λ w. operated Multiply (IntValue (pos n)) w) v e in
       let q = perm_value_is y.it (has_type kb pl.1 y.it y.is) in
-      ap type_of (sym (some_is _ v (sym (ap (operated Multiply (IntValue (pos n))) q.1) ∙ y.then)))
+      ap type_of (sym (same_Some _ v (sym (ap (operated Multiply (IntValue (pos n))) q.1) ∙ y.then)))
   has_type (divides {op = op} {a = a} {b = b} ka kb) pl v e =
       let x = came (value p no_applications s a) (λ v. option_and_then (λ w. divided op v w) (value p no_applications s b)) v e in
       let y = came (value p no_applications s b) (λ w. divided op x.it w) v x.then in
@@ -127,8 +127,8 @@ module _ (p : Program) (ds : List Declaration) (vs : List Value) (typed : run.Ha
   has_type (unfoldings i d is hs hq k) pl v e = has_type k pl.2 v e
 
   pub have_types : {es : Exprs} {fs : List Declaration} → HaveTypes p ds es fs → ArePlain es → (ws : List Value) → values p no_applications s es ≡ Some ws → run.HaveTypes fs ws
-  have_types {fs = fs} no_more pl ws e = subst (run.HaveTypes []) (some_is [] ws e) tt
+  have_types {fs = fs} no_more pl ws e = subst (run.HaveTypes []) (same_Some [] ws e) tt
   have_types (more {e = a} {es = es} {d = d} {ds = fs} k ks) pl ws e =
       let x = came (value p no_applications s a) (λ v. option_and_then (λ vs. Some (v ∷ vs)) (values p no_applications s es)) ws e in
       let y = came (values p no_applications s es) (λ vs. Some (x.it ∷ vs)) ws x.then in
-      subst (run.HaveTypes (d ∷ fs)) (some_is (x.it ∷ y.it) ws y.then) (has_type k pl.0 x.it x.is, have_types ks pl.1 y.it y.is)
+      subst (run.HaveTypes (d ∷ fs)) (same_Some (x.it ∷ y.it) ws y.then) (has_type k pl.0 x.it x.is, have_types ks pl.1 y.it y.is)

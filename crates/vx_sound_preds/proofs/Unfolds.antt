@@ -1,6 +1,7 @@
 -- An instance that is exchanged for its body: at every depth an `unfolding` goes, and so does an unfold.
 use Rattle.std.proofs.Common.{◌≡◌, ℕ, zero, suc, ◌≤◌, Bool, true, false, ◌&&◌, List, Option, Some, None, refl, sym, ◌∙◌, ap, subst, arith, le_trans}
 use Rattle.std.specs.Prelude.{Ok}
+use Rattle.std.proofs.lemmas.Bool.{and_from}
 use Rattle.vx_frac.specs.Fractions.{Fraction}
 use Rattle.vx_ast.specs.declared.Place.{Place}
 use Rattle.vx_ast.specs.Syntax.{Name, Program, Predicate, predicate_named, Assertion}
@@ -334,11 +335,7 @@ module _ (means : Meaning) (p : Program) (good : GoodBodies p) (Held : Name → 
       rw_body h = subst (λ z. of_body keys.predicate z outcome) e.body_is (subst (λ z. of_predicate z outcome) keys.named h)
 
       has : has_instance c (record { predicate = x; arguments = vs }) q ≡ true
-      has = both pos.holds e.enough.holds
-        where
-          both : {b d : Bool} → b ≡ true → d ≡ true → (b && d) ≡ true
-          both {b = true} f g = g
-          both {b = false} f g = f
+      has = and_from _ _ pos.holds e.enough.holds
 
       allowed : Eventually (λ (n : ℕ). guard at (has_instance c (record { predicate = x; arguments = vs }) q) ≡ Ok tt)
       allowed = always (λ n. ap (guard at) has)

@@ -1,6 +1,7 @@
 -- Where the walks of all predicates passed, proper instances are covered, and a predicate whose walk passed doesn't fail.
 use Rattle.std.proofs.Common.{◌≡◌, ℕ, suc, ◌+◌, false, List, [], ◌∷◌, Option, Some, None, refl, sym, ◌∙◌, ap, subst, arith, le_refl, true≢false}
 use Rattle.std.specs.Prelude.{Ok, option_and_then, unwrap_or}
+use Rattle.std.proofs.lemmas.Option.{same_Some}
 use Rattle.vx_frac.specs.Fractions.{none, full, product}
 use Rattle.vx_ast.specs.Syntax.{Name, Declaration, Program, Predicate, IsPredicate, Assertion, predicate_named}
 use Rattle.vx_smt_meaning.specs.declared.reply.Reply.{Reply}
@@ -34,7 +35,6 @@ use Rattle.vx_sound.proofs.Giving.{whole_scale}
 use Rattle.vx_sound.proofs.Assertions.{give_goes}
 use Rattle.vx_sound_preds.specs.Bodies.{GoodBodies}
 use Rattle.vx_sound_preds.specs.Covered.{AllGood, Covered, IsProper, PredicatesPass}
-use Rattle.vx_sound_preds.proofs.Fitting.{some_is}
 use Rattle.vx_sound_preds.proofs.Flats.{came, flat_later}
 use Rattle.vx_sound_preds.proofs.Totals.{weigh, weigh_none, weight, weight_sign, weight_of_body, weigh_sign, total_weighs, same_is}
 use Rattle.vx_sound_preds.proofs.Grouped.{AreSingle, NoDebts}
@@ -201,7 +201,7 @@ module _ (p : Program) (good : GoodBodies p) (x : Name) (no_perm : (x : Name) (d
   all_proper h ((Folded j, q) ∷ xs) t g l = (
     record {
       seen = t.0.0;
-      typed = λ d e. subst (λ (d : Predicate). run.HaveTypes d.parameters j.arguments) (some_is t.0.1.0 d (sym t.0.1.1 ∙ e)) t.0.1.3;
+      typed = λ d e. subst (λ (d : Predicate). run.HaveTypes d.parameters j.arguments) (same_Some t.0.1.0 d (sym t.0.1.1 ∙ e)) t.0.1.3;
       grounded = g.0;
       null = λ n f. (less_fuel p good x h (l n f).0 n (null_at f) j (l n f).1.0).holds;
     },
@@ -218,11 +218,11 @@ module _ (p : Program) (good : GoodBodies p) (x : Name) (no_perm : (x : Name) (d
       side d (Some a) = entries p (bare (bind d.parameters i.arguments) h) a
 
       go : (d : Predicate) → predicate_named p i.predicate ≡ Some d → (b : Option Assertion) → d.body ≡ b → side d d.body ≡ Some es → AllGood (IsProper p x) h es
-      go d is None body f = subst (AllGood (IsProper p x) h) (some_is [] es (sym (ap (side d) body) ∙ f)) tt
+      go d is None body f = subst (AllGood (IsProper p x) h) (same_Some [] es (sym (ap (side d) body) ∙ f)) tt
       go d is (Some a) body f =
           let of : entries p (bare (bind d.parameters i.arguments) h) a ≡ Some es = sym (ap (side d) body) ∙ f in
           let o = opened p h i d a is body pr.grounded in
-          let one : o.entries_of ≡ es = some_is o.entries_of es (sym o.entries_are ∙ of) in
+          let one : o.entries_of ≡ es = same_Some o.entries_of es (sym o.entries_are ∙ of) in
           let ps = entries_positive p (bare (bind d.parameters i.arguments) h) a es (good.plain i.predicate d a is body) of in
           all_proper h es (body_typed h i d a es is body pr of) (subst (AreEntries p h) one o.can)
           (λ n f. (pr.grounded.0, lighter p good x h (pr.grounded.0 + n) (null_at f) es ps (light p good x h i pr es e n f)))

@@ -1,5 +1,6 @@
 -- The law at work over a method that unfolds an instance and folds it again.
 use Rattle.std.proofs.Common.{◌≡◌, ◌<◌, ◌⊎◌, inl, inr, ℕ, zero, suc, Bool, true, false, not, List, [], ◌∷◌, Option, Some, None, slice_get, refl, sym, ◌∙◌, ap, subst, true≢false, arith}
+use Rattle.std.proofs.lemmas.Option.{same_Some}
 use Rattle.vx_frac.specs.Fractions.{lowest, over}
 use Rattle.vx_ast.specs.declared.ValueType.TheVariants.{Int}
 use Rattle.vx_ast.specs.Syntax.{Name, same_name, Member, Kind, IsField, IsPredicate, IsMethod, Predicate, Function, Method, Assertion, Equal, member_named, predicate_in, function_in, method_in, predicate_named, function_named, method_named}
@@ -23,9 +24,6 @@ use Rattle.vx_sound_preds.proofs.Soundness.{instance_members_sound}
 one_positive : 0 < 1
 one_positive = omega arith
 
-some_is : {A : Type 0} (a b : A) → Some a ≡ Some b → a ≡ b
-some_is a b e = cc
-
 nothing : {A R : Type 0} (a : A) → (let o : Option A = None in o) ≡ Some a → R
 nothing a e = cc
 
@@ -46,15 +44,15 @@ no_function : (y : Name) (g : Function) → function_named renewed y ≡ Some g 
 no_function = by_name (λ o. (g : Function) → function_in o ≡ Some g → ⊥) nothing nothing nothing nothing
 
 the_predicate : (y : Name) (d : Predicate) → predicate_named renewed y ≡ Some d → cell ≡ d
-the_predicate = by_name (λ o. (d : Predicate) → predicate_in o ≡ Some d → cell ≡ d) (λ d e. nothing d e) (some_is cell) (λ d e. nothing d e) (λ d e. nothing d e)
+the_predicate = by_name (λ o. (d : Predicate) → predicate_in o ≡ Some d → cell ≡ d) (λ d e. nothing d e) (same_Some cell) (λ d e. nothing d e) (λ d e. nothing d e)
 
 the_method : (y : Name) (n : Method) → method_named renewed y ≡ Some n → renews ≡ n
-the_method = by_name (λ o. (n : Method) → method_in o ≡ Some n → renews ≡ n) (λ n e. nothing n e) (λ n e. nothing n e) (some_is renews) (λ n e. nothing n e)
+the_method = by_name (λ o. (n : Method) → method_in o ≡ Some n → renews ≡ n) (λ n e. nothing n e) (λ n e. nothing n e) (same_Some renews) (λ n e. nothing n e)
 
 named : (n : ℕ) (k : Member) → slice_get renewed n ≡ Some k → member_named renewed k.name ≡ Some k.kind
-named zero k e = subst (λ (k : Member). member_named renewed k.name ≡ Some k.kind) (some_is (record { name = f; kind = IsField Int }) k e) refl
-named (suc zero) k e = subst (λ (k : Member). member_named renewed k.name ≡ Some k.kind) (some_is (record { name = P; kind = IsPredicate cell }) k e) refl
-named (suc (suc zero)) k e = subst (λ (k : Member). member_named renewed k.name ≡ Some k.kind) (some_is (record { name = m; kind = IsMethod renews }) k e) refl
+named zero k e = subst (λ (k : Member). member_named renewed k.name ≡ Some k.kind) (same_Some (record { name = f; kind = IsField Int }) k e) refl
+named (suc zero) k e = subst (λ (k : Member). member_named renewed k.name ≡ Some k.kind) (same_Some (record { name = P; kind = IsPredicate cell }) k e) refl
+named (suc (suc zero)) k e = subst (λ (k : Member). member_named renewed k.name ≡ Some k.kind) (same_Some (record { name = m; kind = IsMethod renews }) k e) refl
 named (suc (suc (suc n))) k e = cc
 
 -- It is typed.
@@ -85,7 +83,7 @@ cell_typed = record {
 
 -- what holds of the body holds of each predicate's
 each_body : (Q : Assertion → Type 0) → Q cell_body → (y : Name) (d : Predicate) (a : Assertion) → predicate_named renewed y ≡ Some d → d.body ≡ Some a → Q a
-each_body Q k y d a is body = subst Q (some_is cell_body a (ap (λ (d : Predicate). d.body) (the_predicate y d is) ∙ body)) k
+each_body Q k y d a is body = subst Q (same_Some cell_body a (ap (λ (d : Predicate). d.body) (the_predicate y d is) ∙ body)) k
 
 enters_nothing : (y : Name) (d : Predicate) (z : Name) → predicate_named renewed y ≡ Some d → Stands z (entered_by_body d.body) → ⊥
 enters_nothing y d z is st = subst (λ (d : Predicate). Stands z (entered_by_body d.body)) (sym (the_predicate y d is)) st
@@ -146,7 +144,7 @@ closed y k c e = go (reached y c)
   where
     at : (z : Name) (l : Kind) → y ≡ z → member_named renewed z ≡ Some l → IsInstanceMember l × Passes renewed z l (Unsat ∷ []) → IsInstanceMember k × Passes renewed y k (Unsat ∷ [])
     at z l same is h =
-        let kind : l ≡ k = some_is l k (sym is ∙ subst (λ (z : Name). member_named renewed z ≡ Some k) same e) in
+        let kind : l ≡ k = same_Some l k (sym is ∙ subst (λ (z : Name). member_named renewed z ≡ Some k) same e) in
         subst (λ (k : Kind). IsInstanceMember k × Passes renewed y k (Unsat ∷ [])) kind (subst (λ (z : Name). IsInstanceMember l × Passes renewed z l (Unsat ∷ [])) (sym same) h)
 
     go : (y ≡ m) ⊎ (y ≡ P) → IsInstanceMember k × Passes renewed y k (Unsat ∷ [])

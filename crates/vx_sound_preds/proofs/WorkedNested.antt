@@ -1,6 +1,7 @@
 -- A predicate whose body unfolds an instance within it: its walk passes, and its proper instances are covered.
 use Rattle.std.proofs.Common.{◌≡◌, ◌<◌, inl, inr, ℕ, zero, suc, Bool, true, false, [], ◌∷◌, Option, Some, None, slice_get, refl, subst, arith}
 use Rattle.std.specs.Prelude.{unwrap_or}
+use Rattle.std.proofs.lemmas.Option.{same_Some}
 use Rattle.vx_frac.specs.Fractions.{lowest, over, none, at_most}
 use Rattle.vx_ast.specs.declared.ValueType.TheVariants.{Int}
 use Rattle.vx_ast.specs.Syntax.{Name, same_name, Member, Kind, IsField, IsPredicate, Predicate, Function, Method, Assertion, Equal, member_named, predicate_in, function_in, method_in, predicate_named, function_named, method_named}
@@ -26,9 +27,6 @@ use Rattle.vx_sound_preds.proofs.Soundness.{typed_predicate_sound}
 one_positive : 0 < 1
 one_positive = omega arith
 
-some_is : {A : Type 0} (a b : A) → Some a ≡ Some b → a ≡ b
-some_is a b e = cc
-
 nothing : {A R : Type 0} (a : A) → (let o : Option A = None in o) ≡ Some a → R
 nothing a e = cc
 
@@ -53,15 +51,15 @@ no_method = by_name (λ o. (m : Method) → method_in o ≡ Some m → ⊥) noth
 
 -- what holds of both predicates
 each : (T : Predicate → Type 0) → T cell → T holder → (y : Name) (d : Predicate) → predicate_named nested y ≡ Some d → T d
-each T of_cell of_holder = by_name (λ o. (d : Predicate) → predicate_in o ≡ Some d → T d) (λ d e. nothing d e) (λ d e. subst T (some_is cell d e) of_cell) (λ d e. subst T (some_is holder d e) of_holder) (λ d e. nothing d e)
+each T of_cell of_holder = by_name (λ o. (d : Predicate) → predicate_in o ≡ Some d → T d) (λ d e. nothing d e) (λ d e. subst T (same_Some cell d e) of_cell) (λ d e. subst T (same_Some holder d e) of_holder) (λ d e. nothing d e)
 
 each_body : (T : Assertion → Type 0) → T cell_body → T holder_body → (y : Name) (d : Predicate) (a : Assertion) → predicate_named nested y ≡ Some d → d.body ≡ Some a → T a
-each_body T of_cell of_holder y d a is body = each (λ d. (a : Assertion) → d.body ≡ Some a → T a) (λ a e. subst T (some_is cell_body a e) of_cell) (λ a e. subst T (some_is holder_body a e) of_holder) y d is a body
+each_body T of_cell of_holder y d a is body = each (λ d. (a : Assertion) → d.body ≡ Some a → T a) (λ a e. subst T (same_Some cell_body a e) of_cell) (λ a e. subst T (same_Some holder_body a e) of_holder) y d is a body
 
 named : (n : ℕ) (k : Member) → slice_get nested n ≡ Some k → member_named nested k.name ≡ Some k.kind
-named zero k e = subst (λ (k : Member). member_named nested k.name ≡ Some k.kind) (some_is (record { name = f; kind = IsField Int }) k e) refl
-named (suc zero) k e = subst (λ (k : Member). member_named nested k.name ≡ Some k.kind) (some_is (record { name = P; kind = IsPredicate cell }) k e) refl
-named (suc (suc zero)) k e = subst (λ (k : Member). member_named nested k.name ≡ Some k.kind) (some_is (record { name = Q; kind = IsPredicate holder }) k e) refl
+named zero k e = subst (λ (k : Member). member_named nested k.name ≡ Some k.kind) (same_Some (record { name = f; kind = IsField Int }) k e) refl
+named (suc zero) k e = subst (λ (k : Member). member_named nested k.name ≡ Some k.kind) (same_Some (record { name = P; kind = IsPredicate cell }) k e) refl
+named (suc (suc zero)) k e = subst (λ (k : Member). member_named nested k.name ≡ Some k.kind) (same_Some (record { name = Q; kind = IsPredicate holder }) k e) refl
 named (suc (suc (suc n))) k e = cc
 
 cell_typed : IsTypedPredicate nested cell
@@ -132,7 +130,7 @@ nested_covered = bodies_covered nested Q (λ y. []) nested_typed all_pass
 pub proper_holder : IsProper nested Q [] (its_instance 1)
 proper_holder = record {
   seen = itself;
-  typed = λ d e. subst (λ (d : Predicate). HaveTypes d.parameters (RefValue 1 ∷ [])) (some_is holder d e) (refl, tt);
+  typed = λ d e. subst (λ (d : Predicate). HaveTypes d.parameters (RefValue 1 ∷ [])) (same_Some holder d e) (refl, tt);
   grounded = (2, _, refl);
   null = nothing_of_null;
 }

@@ -1,6 +1,7 @@
 -- The rules Ask, Probe and Fork by their cases, and what a frame stands for by what its parts stand for.
-use Rattle.std.proofs.Common.{◌≡◌, Bool, cond, true, false, ◌||◌, refl, sym, ap, ◌∙◌, subst, List, [], ◌∷◌, ◌++◌, Option, Result, IfOk}
+use Rattle.std.proofs.Common.{◌≡◌, true, false, ◌||◌, sym, ap, ◌∙◌, subst, List, [], ◌∷◌, ◌++◌, Option, Result, IfOk}
 use Rattle.std.proofs.lemmas.Result.{IfOk-weaker}
+use Rattle.std.proofs.lemmas.Bool.{cond-false, cond-true}
 use Rattle.vx_ast.specs.declared.Place.{Place}
 use Rattle.vx_ast.specs.Syntax.{Program, Assertion}
 use Rattle.vx_stack.specs.declared.waiting.Production.{Production}
@@ -24,42 +25,36 @@ fork_both c d s s1 s2 left right e n f h k =
     let k' : s2 ≡ with_branch (negate c) s = subst (λ x. s2 ≡ with_branch x s) n k in
     rw (e, f') (ap (λ x. Fork (left x) (right (with_branch (negate c) s))) (sym h) ∙ ap (λ x. Fork (left s1) (right x)) (sym k'))
 
-if_false : {A : Type 0} (b : Bool) (x y : A) → b ≡ false → cond b x y ≡ y
-if_false b x y e = rw e refl
-
-if_true : {A : Type 0} (b : Bool) (x y : A) → b ≡ true → cond b x y ≡ x
-if_true b x y e = rw e refl
-
 pub ask_passes : (c : Term) (at : Place) (code : Code) (s : State) (on : Going) → (same c true_term || is_quiet s) ≡ true → ask c at code s on ≡ Step (on s)
-ask_passes c at code s on e = if_true (same c true_term || is_quiet s) _ _ e
+ask_passes c at code s on e = cond-true (same c true_term || is_quiet s) _ _ e
 
 pub ask_fact : (c : Term) (at : Place) (code : Code) (s s1 : State) (on : Going) (q : Question) → (same c true_term || is_quiet s) ≡ false → same c false_term ≡ false → s1 ≡ with_fact c s → q ≡ question false c at code s → ask c at code s on ≡ Ask q (on s1)
 ask_fact c at code s s1 on q e f h i =
-    if_false (same c true_term || is_quiet s) _ _ e ∙ ap (Ask (question false c at code s)) (if_false (same c false_term) (Impossible s) (on (with_fact c s)) f)
+    cond-false (same c true_term || is_quiet s) _ _ e ∙ ap (Ask (question false c at code s)) (cond-false (same c false_term) (Impossible s) (on (with_fact c s)) f)
     ∙ ap (λ x. Ask x (on (with_fact c s))) (sym i) ∙ ap (λ x. Ask q (on x)) (sym h)
 
 pub ask_false : (c : Term) (at : Place) (code : Code) (s : State) (on : Going) (q : Question) → (same c true_term || is_quiet s) ≡ false → same c false_term ≡ true → q ≡ question false c at code s → ask c at code s on ≡ Ask q (Impossible s)
 ask_false c at code s on q e f i =
-    if_false (same c true_term || is_quiet s) _ _ e ∙ ap (Ask (question false c at code s)) (if_true (same c false_term) (Impossible s) (on (with_fact c s)) f)
+    cond-false (same c true_term || is_quiet s) _ _ e ∙ ap (Ask (question false c at code s)) (cond-true (same c false_term) (Impossible s) (on (with_fact c s)) f)
     ∙ ap (λ x. Ask x (Impossible s)) (sym i)
 
 pub never_asks : (at : Place) (code : Code) (s : State) (q : Question) → is_quiet s ≡ false → q ≡ question false false_term at code s → never at code s ≡ Ask q (Impossible s)
-never_asks at code s q l i = if_false (is_quiet s) _ _ l ∙ ap (λ x. Ask x (Impossible s)) (sym i)
+never_asks at code s q l i = cond-false (is_quiet s) _ _ l ∙ ap (λ x. Ask x (Impossible s)) (sym i)
 
 pub probe_true : (c : Term) (at : Place) (code : Code) (s : State) (a b : Tree) → same c true_term ≡ true → probe c at code s a b ≡ Step a
-probe_true c at code s a b e = if_true (same c true_term) _ _ e
+probe_true c at code s a b e = cond-true (same c true_term) _ _ e
 
 pub probe_quiet : (c : Term) (at : Place) (code : Code) (s : State) (a b : Tree) → is_quiet s ≡ true → same c true_term ≡ false → probe c at code s a b ≡ Step b
-probe_quiet c at code s a b l e = if_false (same c true_term) _ _ e ∙ if_true (is_quiet s) _ _ l
+probe_quiet c at code s a b l e = cond-false (same c true_term) _ _ e ∙ cond-true (is_quiet s) _ _ l
 
 pub probe_other : (c : Term) (at : Place) (code : Code) (s : State) (a b : Tree) (q : Question) → is_quiet s ≡ false → same c true_term ≡ false → same c false_term ≡ false → q ≡ question true c at code s → probe c at code s a b ≡ Probe q a b
 probe_other c at code s a b q l e f i =
-    if_false (same c true_term) _ _ e ∙ if_false (is_quiet s) _ _ l ∙ ap (λ x. Probe (question true c at code s) x b) (if_false (same c false_term) (Impossible s) a f)
+    cond-false (same c true_term) _ _ e ∙ cond-false (is_quiet s) _ _ l ∙ ap (λ x. Probe (question true c at code s) x b) (cond-false (same c false_term) (Impossible s) a f)
     ∙ ap (λ x. Probe x a b) (sym i)
 
 pub probe_false : (c : Term) (at : Place) (code : Code) (s : State) (a b : Tree) (q : Question) → is_quiet s ≡ false → same c true_term ≡ false → same c false_term ≡ true → q ≡ question true c at code s → probe c at code s a b ≡ Probe q (Impossible s) b
 probe_false c at code s a b q l e f i =
-    if_false (same c true_term) _ _ e ∙ if_false (is_quiet s) _ _ l ∙ ap (λ x. Probe (question true c at code s) x b) (if_true (same c false_term) (Impossible s) a f)
+    cond-false (same c true_term) _ _ e ∙ cond-false (is_quiet s) _ _ l ∙ ap (λ x. Probe (question true c at code s) x b) (cond-true (same c false_term) (Impossible s) a f)
     ∙ ap (λ x. Probe x (Impossible s) b) (sym i)
 
 pub checked_ask : (p : Program) (q : Query) (t : Tree) (old new : List Side) (a : Side) → q.probe ≡ false → new ≡ old ++ a ∷ [] → t ≡ Ask (query q) (side_tree p a) → Stepped p t old (move'.Check q) new

@@ -3,3 +3,4 @@ pub mod SymStates
 pub mod Keys
 pub mod Index
 pub mod Entering
+pub mod Views

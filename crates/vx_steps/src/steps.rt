@@ -82,7 +82,7 @@ fn step_outcome(
     ensures { IfOk result (λ m. Stepped (settled program.now) (concluding (settled program.now) v.now (held_term value) (state_of state)) conts.old.sides.items m conts.new.sides.items) }
 {
     let mut state = state;
-    vx_quiet::bind_outcome(alloc, &mut state, value)?;
+    vx_states::bind_outcome(alloc, &mut state, value)?;
     let all = conjoined(alloc, v.function.place, &v.function.postconditions)?;
     let all = as_assertion(alloc, &all)?;
     let codes = Codes {

@@ -1,7 +1,7 @@
 -- Measures and groups: what typing asks holds exactly where the walk over them passes.
 use Rattle.std.proofs.Common.{◌≡◌, ◌∙◌, refl, sym, ap, subst, ℕ, zero, suc, ◌+◌, ◌<◌, ◌⊎◌, inl, inr, Bool, true, false, ◌&&◌, ◌||◌, not, length, List, [], ◌∷◌, Option, Some, None, arith, if◌then◌else◌, Ok}
 use Rattle.std.specs.Prelude.{⊤}
-use Rattle.std.proofs.lemmas.Bool.{false≢true}
+use Rattle.std.proofs.lemmas.Bool.{false≢true, false_from_ne_true, or_left, or_right}
 use Rattle.vx_ast.specs.declared.Place.{Place}
 use Rattle.vx_ast.specs.Written.{Expr, Function, Kind, IsField, IsPredicate, IsFunction, IsMethod, Member, Program, measure_of}
 use Rattle.vx_expressions.specs.Settings.{Table}
@@ -13,7 +13,7 @@ use Rattle.vx_typing.specs.Groups.{kind_at, Reaches, InGroup, IsOwn, in_group, i
 use Rattle.vx_typing.specs.GroupFaults.{some_below, has_measure, measures_by, some_measures_by, own_measure, group_measured, measured, measures, none_own, apart, all_apart}
 use Rattle.vx_expressions.proofs.Passed.{ok_is, not_ok, bound, tested, and_parts, and_true}
 use Rattle.vx_statements.proofs.AgreesStatements.{from_not}
-use Rattle.vx_typing.proofs.Reachable.{less_or_last, one_of, or_left, or_right, on, reached_below, grouped, in_its_group, own, is_its_own}
+use Rattle.vx_typing.proofs.Reachable.{less_or_last, one_of, on, reached_below, grouped, in_its_group, own, is_its_own}
 
 pub not_some : {X R : Type 0} {x : X} → (let o : Option X = None in o) ≡ Some x → R
 not_some e = cc
@@ -139,12 +139,8 @@ module _ (p : Program) where
       let m = measures_is (table_of p) (not x) (kind_at p k.0) q.1 in
       the_same x (is_instance (table_of p) m.1) (h k.0 m.0 m.1 m.2 (in_its_group p a k.0 q.0) m.3) m.4
 
-  is_false : (b : Bool) → (b ≡ true → ⊥) → b ≡ false
-  is_false true h = absurd (h refl)
-  is_false false h = refl
-
   alike_from : (a : ℕ) (d : Expr) → AlikeIn a d → some_measures_by p a (not (is_instance (table_of p) d)) ≡ false
-  alike_from a d h = is_false (some_measures_by p a (not (is_instance (table_of p) d))) (λ s. no_other a d h s)
+  alike_from a d h = false_from_ne_true (some_measures_by p a (not (is_instance (table_of p) d))) (λ s. no_other a d h s)
 
   abbrev measured_member : ℕ → Member → Checked ⊤
   measured_member a m = measured p a m.place m.kind
@@ -190,7 +186,7 @@ module _ (p : Program) where
 
   foreign_from : (a : ℕ) (all : Bool) (u : Use) → Foreign a all u → ((all || u.unfolds) && is_own p a u.name) ≡ false
   foreign_from a all u h =
-      is_false ((all || u.unfolds) && is_own p a u.name) (λ e. let q = and_parts (all || u.unfolds) (is_own p a u.name) e in h q.0 (is_its_own p a u.name q.1))
+      false_from_ne_true ((all || u.unfolds) && is_own p a u.name) (λ e. let q = and_parts (all || u.unfolds) (is_own p a u.name) e in h q.0 (is_its_own p a u.name q.1))
 
   none_to : (a : ℕ) (all : Bool) (us : List Use) (v : ⊤) → none_own p a all us ≡ Ok v → Each (Foreign a all) us
   none_to a all [] v h = tt

@@ -2,6 +2,7 @@
 use Rattle.std.proofs.Common.{false, ◌≡◌, ◌∙◌, refl, sym, ap, subst, ℕ, zero, suc, ◌+◌, ◌<◌, Bool, true, ◌&&◌, ◌↔◌, nat_eq, List, [], ◌∷◌, ◌++◌, length, map, drop, get_or, Option, Some, All, Vec, arith, append_assoc, eq-eqb, ◌||◌, add-one}
 use Rattle.std.proofs.lemmas.List.Elements.{All-cons}
 use Rattle.std.specs.declared.alloc.Global.{Global}
+use Rattle.std.proofs.lemmas.Bool.{or_left, or_right}
 use Rattle.vx_ast.specs.declared.Member.{Member as Member'}
 use Rattle.vx_ast.specs.declared.MemberId.{MemberId}
 use Rattle.vx_ast.specs.Written.{Member, Program, written_kind, written_member}
@@ -16,7 +17,7 @@ use Rattle.vx_expressions.specs.Settings.{Table}
 use Rattle.vx_typing.specs.Members.{table_of}
 use Rattle.vx_typing.specs.GroupFaults.{some_below, measures_by}
 use Rattle.vx_statements.proofs.Loops.{left}
-use Rattle.vx_typing.proofs.Reachable.{as_true, or_left, or_right, are_below, grouped, in_its_group}
+use Rattle.vx_typing.proofs.Reachable.{as_true, are_below, grouped, in_its_group}
 
 -- one row more
 pub one_row : (p : Program) (all : List Member') (i : ℕ) (m : Member') (rows : Rows) (row : Vec MemberId Global) → i < length all → m ≡ get_or all i m →

@@ -1,27 +1,15 @@
 -- Whether one member reaches another, as a test.
 use Rattle.std.proofs.Common.{◌≡◌, ◌∙◌, refl, sym, ap, subst, ℕ, zero, suc, ◌+◌, ◌<◌, ◌⊎◌, inl, inr, Bool, true, false, ◌&&◌, ◌||◌, length, List, [], ◌∷◌, Option, Some, None, arith, if◌then◌else◌}
-use Rattle.std.proofs.lemmas.Bool.{false≢true, eqb-true}
+use Rattle.std.proofs.lemmas.Bool.{false≢true, eqb-true, or_cases, or_left, or_right}
 use Rattle.vx_ast.specs.Syntax.{same_name}
 use Rattle.vx_ast.specs.Written.{Name, Member, Program}
 use Rattle.vx_typing.specs.Uses.{Use}
 use Rattle.vx_typing.specs.Groups.{number_in, number_of, is_number, are_of, uses_by_kind, kind_at, mentions, Reaches, at_once, further, InGroup, reaches_by, in_group, IsOwn, is_own_number, is_own}
 use Rattle.vx_expressions.proofs.Passed.{and_parts, and_true}
 
-pub either : (a b : Bool) → (a || b) ≡ true → (a ≡ true) ⊎ (b ≡ true)
-either true b h = inl refl
-either false b h = inr h
-
 pub one_of : {P : Type 0} (a b : Bool) → (a ≡ true → P) → (b ≡ true → P) → (a || b) ≡ true → P
 one_of true b f g h = f refl
 one_of false b f g h = g h
-
-pub or_left : (a b : Bool) → a ≡ true → (a || b) ≡ true
-or_left true b h = refl
-or_left false b h = absurd (false≢true h)
-
-pub or_right : (a b : Bool) → b ≡ true → (a || b) ≡ true
-or_right true b h = refl
-or_right false b h = h
 
 -- two tests that follow from each other
 pub as_true : (a b : Bool) → (a ≡ true → b ≡ true) → (b ≡ true → a ≡ true) → a ≡ b
@@ -89,7 +77,7 @@ module _ (p : Program) where
 
   -- the two ways, the old one and the one by the last number
   ways : (n a b : ℕ) → reaches_by p (suc n) a b ≡ true → (reaches_by p n a b ≡ true) ⊎ ((reaches_by p n a n ≡ true) × (reaches_by p n n b ≡ true))
-  ways n a b h = go (either (reaches_by p n a b) (reaches_by p n a n && reaches_by p n n b) h)
+  ways n a b h = go (or_cases (reaches_by p n a b) (reaches_by p n a n && reaches_by p n n b) h)
     where
       go : (reaches_by p n a b ≡ true) ⊎ ((reaches_by p n a n && reaches_by p n n b) ≡ true) → (reaches_by p n a b ≡ true) ⊎ ((reaches_by p n a n ≡ true) × (reaches_by p n n b ≡ true))
       go (inl k) = inl k

@@ -313,7 +313,3 @@ pub hears_none : {L : Type 0} (dialogue : L → List Piece) (functions : List De
 hears_none dialogue functions before now child turns checks more none heard =
     subst (λ x. Hears dialogue functions before now child x (checks ++ [])) (sym (ap (λ x. turns ++ x) none ∙ append-nil turns))
     (subst (λ x. Hears dialogue functions before now child turns x) (sym (append-nil checks)) heard)
-
-pub one_longer : {A : Type 0} (xs : List A) (x : A) → length (xs ++ x ∷ []) ≡ length xs + 1
-one_longer [] x = refl
-one_longer (y ∷ xs) x = let h = one_longer xs x in omega arith

@@ -4,7 +4,7 @@ use Rattle.std.specs.Prelude.{nat_le, if◌then◌else◌}
 use Rattle.std.specs.Str.{all_ascii_digits}
 use Rattle.std.specs.Str.Parse.{digits_value, ParsesUnsigned}
 use Rattle.std.specs.declared.num.ParseIntError.{ParseIntError}
-use Rattle.std.proofs.lemmas.Bool.{leb-true, le-leb}
+use Rattle.std.proofs.lemmas.Bool.{leb-true, le-leb, and_parts}
 use Rattle.std.proofs.lemmas.Str.Parse.{IsNumeralModel, numerals_by_value, tells_all_ascii_digits, parse_plain}
 use Rattle.vx_words.specs.Methods.{is_numeral, methods_in}
 
@@ -16,11 +16,6 @@ own = numerals_by_value IsDigits tells_all_ascii_digits
 
 abbrev Asks : List ℕ → Bool
 Asks text = is_numeral text && nat_le (digits_value 10 text) 2000
-
--- the parts of a test of two
-both : (a b : Bool) → (a && b) ≡ true → (a ≡ true) × (b ≡ true)
-both true b e = (refl, e)
-both false b e = cc
 
 when_not : (b : Bool) (n : ℕ) → (b ≡ true → ⊥) → None ≡ (if b then Some n else None)
 when_not true n h = absurd (h refl)
@@ -43,6 +38,6 @@ module _ (text : List ℕ) (plain : nat_eq (get_or text 0 0) 43 ≡ false) where
       let r : Result ℕ ParseIntError = Err e in
       let told = parse_plain own 32 text r h (no_plus text plain) in
       when_not (Asks text) (digits_value 10 text) (λ asks.
-      let parts = both (is_numeral text) _ asks in
-      let digits = both (nat_le 1 (length text)) _ parts.0 in
+      let parts = and_parts (is_numeral text) _ asks in
+      let digits = and_parts (nat_le 1 (length text)) _ parts.0 in
       told (digits.1, leb-true 1 (length text) digits.0, omega (arith, leb-true (digits_value 10 text) 2000 parts.1)))

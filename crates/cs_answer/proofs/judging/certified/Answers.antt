@@ -2,8 +2,8 @@ use Rattle.std.proofs.Common.{◌≡◌, ◌↔◌, ℕ, Ok, Err, IfOk, Vec, Glo
 use Rattle.std.specs.declared.result.Result.{Result}
 use Rattle.vx_terms.specs.Interpretations.{Each, IsUnsatisfiable}
 use Rattle.cs_certificate.specs.Certificate.{Stack}
-use Rattle.cs_columns.specs.declared.stop.Stop.{Stop}
-use Rattle.cs_columns.specs.declared.stop.Stop.TheVariants as stops
+use Rattle.cs_sums.specs.declared.stop.Stop.{Stop}
+use Rattle.cs_sums.specs.declared.stop.Stop.TheVariants as stops
 use Rattle.cs_farkas.specs.Sums as sums
 use Rattle.cs_numbers.specs.Laws.{IsSorted}
 use Rattle.cs_proof.specs.declared.step.Step.{Step}

@@ -1,7 +1,7 @@
 use Rattle.std.proofs.Common.{◌≤◌, ◌∙◌, List, false, length, get_or, subst, ap}
 use Rattle.std.proofs.lemmas.List.{take_all}
 use Rattle.std.proofs.lemmas.List.Elements.{All-more}
-use Rattle.cs_hints.specs.declared.Literal.{Literal}
+use Rattle.cs_certificate.specs.declared.literal.Literal.{Literal}
 use Rattle.cs_search.specs.Assignment.{status_of}
 use Rattle.cs_decide.specs.New.{IsUntrue, AreUntrue}
 use Rattle.cs_decide.proofs.cases.are_untrue.Goals as goal

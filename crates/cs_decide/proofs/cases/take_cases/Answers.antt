@@ -1,8 +1,8 @@
 use Rattle.std.proofs.Common.{◌≡◌, ◌∙◌, List, [], ◌∷◌, ◌++◌, ap, subst}
 use Rattle.std.specs.List.{Contains}
 use Rattle.std.proofs.lemmas.List.Elements.{All-contains}
-use Rattle.cs_hints.specs.declared.Literal.{Literal}
-use Rattle.cs_hints.specs.declared.Clause.{Clause}
+use Rattle.cs_certificate.specs.declared.literal.Literal.{Literal}
+use Rattle.cs_certificate.specs.declared.literal.Clause.{Clause}
 use Rattle.cs_search.specs.declared.Value.{Value}
 use Rattle.cs_search.specs.Search.{AreSatisfied, IsUncovered}
 use Rattle.cs_decide.specs.New.{IsUntrue, AreUntrue}

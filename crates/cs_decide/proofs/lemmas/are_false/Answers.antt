@@ -1,7 +1,7 @@
 use Rattle.std.proofs.Common.{◌≤◌, List, false, length, subst}
 use Rattle.std.proofs.lemmas.List.{take_all}
 use Rattle.std.proofs.lemmas.List.Elements.{All-more}
-use Rattle.cs_hints.specs.declared.Literal.{Literal}
+use Rattle.cs_certificate.specs.declared.literal.Literal.{Literal}
 use Rattle.cs_search.specs.Assignment.{FalseBefore, IsFalse}
 use Rattle.cs_decide.proofs.lemmas.are_false.Goals as goal
 

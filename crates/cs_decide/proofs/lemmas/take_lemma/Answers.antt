@@ -1,5 +1,5 @@
 use Rattle.std.proofs.Common.{List, length, subst}
-use Rattle.cs_hints.specs.declared.Literal.{Literal}
+use Rattle.cs_certificate.specs.declared.literal.Literal.{Literal}
 use Rattle.cs_search.specs.Assignment.{IsFalse}
 use Rattle.cs_decide.proofs.lemmas.take_lemma.Goals as goal
 

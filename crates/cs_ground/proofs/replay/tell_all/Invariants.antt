@@ -1,6 +1,6 @@
 use Rattle.std.proofs.Common.{◌+◌, List, [], length, take}
 use Rattle.cs_certificate.specs.Certificate.{Stack}
-use Rattle.cs_hints.specs.declared.Clause.{Clause}
+use Rattle.cs_certificate.specs.declared.literal.Clause.{Clause}
 use Rattle.cs_derivation.specs.View.{reached}
 use Rattle.cs_search.specs.Search.{Learns}
 use Rattle.cs_ground.specs.Atoms.{literals}

@@ -1,8 +1,9 @@
 use Rattle.std.proofs.Common.{◌≡◌, ◌≤◌, ◌+◌, ◌∙◌, ◌∷◌, [], length, length-append, ap, sym, List, ℕ, arith}
+use Rattle.std.proofs.lemmas.List.{nil_from_length}
 use Rattle.cs_linear.specs.declared.rows.Row.{Row}
 use Rattle.cs_linear.specs.Pivots.{carried, written}
 use Rattle.cs_linear.proofs.Lists.{long}
-use Rattle.cs_linear.proofs.Carried.{carried_last, carried_all, written_count, empty_is}
+use Rattle.cs_linear.proofs.Carried.{carried_last, carried_all, written_count}
 use Rattle.cs_linear.proofs.pivot.carry_out.Goals as goal
 
 still_room : (m n k l : ℕ) → l ≡ m + 1 → l ≤ n → k ≡ n → m ≤ k
@@ -20,4 +21,4 @@ loop-plan-preserved c =
     }
 
 pub returns : goal.returns
-returns c = sym (carried_all c.loop-plan.rows.items c.loop-plan.left.items (empty_is c.loop-plan.left.items (sym (long c.loop-plan.left) ∙ c.in_default.ensures.cases.0))) ∙ c.loop-plan.invariant.carries
+returns c = sym (carried_all c.loop-plan.rows.items c.loop-plan.left.items (nil_from_length c.loop-plan.left.items (sym (long c.loop-plan.left) ∙ c.in_default.ensures.cases.0))) ∙ c.loop-plan.invariant.carries

@@ -2,7 +2,7 @@ use Rattle.std.proofs.Common.{All, ap, sym, subst, arith}
 use Rattle.std.proofs.lemmas.Grind.{common_steps}
 use Rattle.std.proofs.lemmas.List.Elements.{All-take}
 use Rattle.cs_table.specs.Views.{nodes}
-use Rattle.cs_hints.specs.Marks.{terms_in}
+use Rattle.cs_certificate.specs.Marks.{terms_in}
 use Rattle.cs_proof.specs.Views.{duty, IsFitClause}
 use Rattle.cs_proof.specs.Checking.{met}
 use Rattle.cs_proof.proofs.checker.meet.Goals as goal

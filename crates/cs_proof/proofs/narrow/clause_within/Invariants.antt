@@ -1,7 +1,7 @@
 use Rattle.std.proofs.Common.{◌≡◌, drop}
 use Rattle.std.specs.Prelude.{All}
 use Rattle.cs_table.specs.Gives.{clause}
-use Rattle.cs_hints.specs.Marks.{IsBelow}
+use Rattle.cs_certificate.specs.Marks.{IsBelow}
 use Rattle.cs_proof.specs.Prepared.{within}
 use Rattle.cs_proof.proofs.Walks.{with_front}
 use Rattle.cs_proof.proofs.narrow.clause_within.Given as goal

@@ -1,5 +1,5 @@
 use Rattle.std.proofs.Common.{◌≡◌, ◌⊎◌, ◌≤◌, false, length, refl}
-use Rattle.cs_hints.specs.declared.Literal.{Literal}
+use Rattle.cs_certificate.specs.declared.literal.Literal.{Literal}
 use Rattle.cs_search.specs.Assignment.{FalseBefore}
 use Rattle.cs_search.proofs.Added.{all_more, all_whole}
 use Rattle.cs_search.proofs.analyse.leaves_only.Goals as goal

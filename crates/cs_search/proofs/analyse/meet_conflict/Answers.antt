@@ -1,5 +1,5 @@
 use Rattle.std.proofs.Common.{◌≡◌, List, length, sym, ◌∙◌, subst, ap}
-use Rattle.cs_hints.specs.declared.Literal.{Literal}
+use Rattle.cs_certificate.specs.declared.literal.Literal.{Literal}
 use Rattle.cs_search.specs.Learned.{IsJoined}
 use Rattle.cs_search.proofs.Passes.{at_index}
 use Rattle.cs_search.proofs.Analyses.{conflict_within}

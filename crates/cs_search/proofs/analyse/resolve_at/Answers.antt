@@ -1,6 +1,6 @@
 use Rattle.std.proofs.Common.{◌+◌, refl, sym, ◌∙◌, subst}
 use Rattle.std.proofs.lemmas.Option.{slice_get_read}
-use Rattle.cs_hints.specs.declared.Literal.{Literal}
+use Rattle.cs_certificate.specs.declared.literal.Literal.{Literal}
 use Rattle.cs_search.specs.Learned.{IsForcing}
 use Rattle.cs_search.proofs.Analyses.{reason_within, no_decision}
 use Rattle.cs_search.proofs.Settles.{some_at}

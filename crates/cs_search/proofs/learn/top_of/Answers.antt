@@ -1,6 +1,6 @@
 use Rattle.std.proofs.Common.{◌+◌, false, take, sym}
 use Rattle.std.proofs.lemmas.List.{take_more}
-use Rattle.cs_hints.specs.declared.Literal.{Literal}
+use Rattle.cs_certificate.specs.declared.literal.Literal.{Literal}
 use Rattle.cs_search.proofs.Tops.{top_at}
 use Rattle.cs_search.proofs.learn.top_of.Goals as goal
 

@@ -1,6 +1,6 @@
 use Rattle.std.proofs.Common.{None, length}
 use Rattle.std.proofs.lemmas.Option.{slice_get_within}
-use Rattle.cs_hints.specs.declared.Literal.{Literal}
+use Rattle.cs_certificate.specs.declared.literal.Literal.{Literal}
 use Rattle.cs_search.specs.declared.Value.TheVariants.{Unset}
 use Rattle.cs_search.specs.declared.Entry.{Entry}
 use Rattle.cs_search.proofs.Passes.{fewer}

@@ -1,6 +1,6 @@
 use Rattle.std.proofs.Common.{List, [], ◌∷◌, ◌++◌, length, refl, sym, ◌∙◌, ap, subst, arith}
 use Rattle.std.proofs.lemmas.Option.{slice_get_within}
-use Rattle.cs_hints.specs.declared.Clause.{Clause}
+use Rattle.cs_certificate.specs.declared.literal.Clause.{Clause}
 use Rattle.cs_search.specs.Extended.{IsConflict, AreClosed}
 use Rattle.cs_search.proofs.Analyses.{only_at}
 use Rattle.cs_search.proofs.Learns.{closed_at_start, forced_free, learned_search, learns_one, learned_over, settled_over, false_over}

@@ -1,5 +1,5 @@
 use Rattle.std.proofs.Common.{List, length, sym, subst}
-use Rattle.cs_hints.specs.declared.Clause.{Clause}
+use Rattle.cs_certificate.specs.declared.literal.Clause.{Clause}
 use Rattle.cs_search.specs.Extended.{IsConflict}
 use Rattle.cs_search.proofs.search.refutation.Goals as goal
 

@@ -3,7 +3,7 @@ use Rattle.std.proofs.lemmas.List.{drop_all}
 use Rattle.cs_index.specs.Found.{found, passes_at}
 use Rattle.cs_index.specs.Under.{under}
 use Rattle.cs_index.proofs.Indexed.{found_here}
-use Rattle.cs_nodes.specs.Nodes.{is_node}
+use Rattle.cs_certificate.specs.Nodes.{is_node}
 use Rattle.cs_table.specs.Table.{nodes_in}
 use Rattle.cs_table.specs.Views.{head, nodes}
 use Rattle.cs_table.proofs.Looked.{looked_up}

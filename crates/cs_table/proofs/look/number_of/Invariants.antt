@@ -1,6 +1,6 @@
 use Rattle.std.proofs.Common.{◌≡◌, drop}
 use Rattle.cs_index.specs.Found.{found}
-use Rattle.cs_nodes.specs.Nodes.{is_node, number_of}
+use Rattle.cs_certificate.specs.Nodes.{is_node, number_of}
 use Rattle.cs_table.specs.Table.{nodes_in}
 use Rattle.cs_table.specs.Views.{head}
 use Rattle.cs_table.proofs.look.number_of.Given as goal

@@ -2,7 +2,7 @@ use Rattle.std.proofs.Common.{◌&&◌, [], ◌∙◌, ap}
 use Rattle.std.proofs.lemmas.List.{drop_all}
 use Rattle.cs_certificate.specs.Terms.{NumberHead}
 use Rattle.vx_terms.specs.Sorts.{same_text}
-use Rattle.cs_nodes.specs.Nodes.{number_of}
+use Rattle.cs_certificate.specs.Nodes.{number_of}
 use Rattle.cs_table.specs.Views.{nodes}
 use Rattle.cs_table.proofs.Shifts.{further, at_first, at_end}
 use Rattle.cs_table.proofs.numbers.see_numbers.Goals as goal

@@ -1,7 +1,7 @@
 use Rattle.std.proofs.Common.{◌≡◌, ℤ, [], drop, FitsSigned}
 use Rattle.std.specs.Int.{w128}
 use Rattle.cs_certificate.specs.Terms.{NumberHead}
-use Rattle.cs_nodes.specs.Nodes.{number_of}
+use Rattle.cs_certificate.specs.Nodes.{number_of}
 use Rattle.cs_table.specs.Views.{nodes}
 use Rattle.cs_table.proofs.Shifts.{shifted}
 use Rattle.cs_table.proofs.numbers.see_numbers.Given as goal

@@ -3,8 +3,8 @@ use Rattle.std.specs.Prelude.{slice_get}
 use Rattle.std.proofs.lemmas.List.{at_drop_more, drop_all, map-append}
 use Rattle.std.proofs.lemmas.Grind.{common_steps}
 use Rattle.cs_certificate.specs.Certificate.{NumberedLiteral}
-use Rattle.cs_nodes.specs.Nodes.{Node, equality}
-use Rattle.cs_nodes.specs.Steps.{◌>>=◌, denial, links}
+use Rattle.cs_certificate.specs.Nodes.{Node, equality}
+use Rattle.cs_certificate.specs.Steps.{◌>>=◌, denial, links}
 use Rattle.cs_table.specs.Table.{nodes_in}
 use Rattle.cs_table.specs.Gives.{clause, numbered}
 use Rattle.cs_table.proofs.steps.links.Invariants.{with_front}

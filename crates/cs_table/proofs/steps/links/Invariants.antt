@@ -1,6 +1,6 @@
 use Rattle.std.proofs.Common.{◌≡◌, ◌++◌, List, Option, Some, drop, ℕ}
 use Rattle.cs_certificate.specs.Certificate.{NumberedLiteral}
-use Rattle.cs_nodes.specs.Steps.{◌>>=◌, links}
+use Rattle.cs_certificate.specs.Steps.{◌>>=◌, links}
 use Rattle.cs_table.specs.Table.{nodes_in}
 use Rattle.cs_table.specs.Gives.{clause}
 use Rattle.cs_table.proofs.steps.links.Given as goal

@@ -1,7 +1,7 @@
 use Rattle.std.proofs.Common.{◌≡◌, ◌+◌, ◌<◌, ◌≤◌, [], ◌∷◌, ◌++◌, length, drop, List, Option, None, sym, ◌∙◌, ap, ap₂, arith}
 use Rattle.std.proofs.lemmas.List.{map-append, drop_all}
 use Rattle.cs_certificate.specs.Certificate.{NumberedLiteral}
-use Rattle.cs_nodes.specs.Steps.{denial, pairs}
+use Rattle.cs_certificate.specs.Steps.{denial, pairs}
 use Rattle.cs_table.specs.declared.steps.Stop.{Stop}
 use Rattle.cs_table.specs.declared.steps.Stop.TheVariants as stops
 use Rattle.cs_table.specs.Table.{nodes_in}

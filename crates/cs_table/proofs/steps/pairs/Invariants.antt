@@ -1,5 +1,5 @@
 use Rattle.std.proofs.Common.{◌≡◌, drop}
-use Rattle.cs_nodes.specs.Steps.{pairs}
+use Rattle.cs_certificate.specs.Steps.{pairs}
 use Rattle.cs_table.specs.Table.{nodes_in}
 use Rattle.cs_table.specs.Gives.{clause}
 use Rattle.cs_table.proofs.Pairs.{joined}

@@ -1,5 +1,5 @@
 use Rattle.std.proofs.Common.{◌≡◌, ◌∷◌, map, take}
-use Rattle.cs_nodes.specs.Steps.{denial}
+use Rattle.cs_certificate.specs.Steps.{denial}
 use Rattle.cs_table.specs.Gives.{clause, numbered}
 use Rattle.cs_table.proofs.steps.with_denials.Given as goal
 

@@ -1,5 +1,5 @@
 use Rattle.std.proofs.Common.{rules, Some, sym, ◌∙◌, ap, subst}
-use Rattle.cs_nodes.specs.Nodes.{Represents}
+use Rattle.cs_certificate.specs.Nodes.{Represents}
 use Rattle.cs_table.specs.Views.{nodes}
 use Rattle.cs_numbers.specs.Listed.{terms_in}
 use Rattle.cs_tables.proofs.Made.{not_missed, represents, assigned_table}

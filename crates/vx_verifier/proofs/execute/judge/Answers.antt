@@ -1,11 +1,12 @@
 use Rattle.std.proofs.Common.{◌≡◌, ◌<◌, ◌++◌, [], length, map, true, false, refl, ap, ◌∙◌, sym, subst, arith, inl, inr}
 use Rattle.std.proofs.lemmas.Result.{IfOk-weaker}
+use Rattle.std.proofs.lemmas.List.{length_push}
 use Rattle.vx_resolved.specs.Settled.{settled}
 use Rattle.vx_smt_meaning.specs.Views.{declared_symbol}
 use Rattle.vx_stack.specs.Stack.{query}
 use Rattle.vx_verifier.specs.Lanes.{IsDue, Records, tried_turn, turns_so_far, is_lost, is_started}
 use Rattle.vx_verifier.proofs.Children.{caused_earlier, fault_is, lost_hears, lost_started, gone_by, faulted_by, match_ok_at, if_ok_at, if_err_at}
-use Rattle.vx_verifier.proofs.Questions.{none_asked, no_turns, hears_none, at_done, at_fault, goes_on, still_running, one_longer, asked_by, started_done, started_fault, due_spelled, alone, faulted_alone}
+use Rattle.vx_verifier.proofs.Questions.{none_asked, no_turns, hears_none, at_done, at_fault, goes_on, still_running, asked_by, started_done, started_fault, due_spelled, alone, faulted_alone}
 use Rattle.vx_machine.specs.Growth.{IsOpen}
 use Rattle.vx_verifier.proofs.Standing.{stays_on}
 use Rattle.vx_report.specs.Reports.{is_resting}
@@ -87,7 +88,7 @@ questions-preserved g c =
     let machine = c.questions.running.machine in
     let next = c.in-Ok-go_on.next.machine in
     let more = c.in-Ok-go_on.ensures in
-    let longer = ap length more.one_more ∙ one_longer machine.replies.items c.in-Ok-reply.reply in
+    let longer = ap length more.one_more ∙ length_push machine.replies.items c.in-Ok-reply.reply in
     let due : length machine.replies.items < machine.limit = subst (λ a. IsDue a machine.limit (length machine.replies.items)) c.in-Check.is so_far.running.due in
     let limit = so_far.running.limit in
     let counted = so_far.checks in

@@ -1,10 +1,10 @@
 use Rattle.std.proofs.Common.{◌≡◌, ◌∙◌, ap, sym, subst, Vec, Global, Option, ℕ, slice_get}
+use Rattle.std.proofs.lemmas.Option.{same_Some}
 use Rattle.vx_frac.specs.Fractions.{Fraction, minus}
 use Rattle.vx_frac.specs.Fraction.{fraction}
 use Rattle.vx_frac.specs.declared.Frac.{Frac}
 use Rattle.cs_linear.specs.declared.rows.Row.{Row}
 use Rattle.cs_linear.specs.Rows.{IsFree, factor_at}
-use Rattle.cs_linear.proofs.Lists.{some_is}
 use Rattle.cs_linear.proofs.Sums.{ascends_out}
 use Rattle.cs_linear.specs.Numbers.{plus, times}
 use Rattle.cs_linear.specs.Values.{values}
@@ -28,7 +28,7 @@ pub pivot-requires-clause-factor : goal.pivot-requires-clause-factor
 pivot-requires-clause-factor c r er =
     let s = c.args.self.now in
     let e = c.requires.entry in
-    let is = some_is e.row r (sym e.here ∙ ap (λ (rs : Vec Row Global). slice_get rs.items c.args.at) (sym c.move_free.ensures.now) ∙ er) in
+    let is = same_Some e.row r (sym e.here ∙ ap (λ (rs : Vec Row Global). slice_get rs.items c.args.at) (sym c.move_free.ensures.now) ∙ er) in
     subst (λ (r : Row). fraction c.args.entry.factor ≡ factor_at r.entries.items c.args.entry.column) is (factor_is 0 e.row.entries.items e.place c.args.entry (ascends_out 0 e.row.entries.items (s.tableau.ascends c.args.at e.row e.here)) e.entry)
 
 pub returns-clause-met : goal.returns-clause-met

@@ -1,10 +1,10 @@
 use Rattle.std.proofs.Common.{◌<◌, All, refl, sym, ◌∙◌, subst}
-use Rattle.std.proofs.lemmas.Option.{slice_get_within}
+use Rattle.std.proofs.lemmas.Option.{slice_get_within, same_Some}
 use Rattle.cs_linear.specs.declared.rows.Row.{Row}
 use Rattle.cs_linear.specs.declared.bounds.Bound.{Bound}
 use Rattle.cs_linear.specs.Values.{values}
 use Rattle.cs_linear.specs.Pivots.{IsRehomed}
-use Rattle.cs_linear.proofs.Lists.{some_is, read_as}
+use Rattle.cs_linear.proofs.Lists.{read_as}
 use Rattle.cs_linear.proofs.Added.{same_tableau, same_alike, same_solves}
 use Rattle.cs_linear.proofs.Following.{all_ascend}
 use Rattle.cs_linear.proofs.Turned.{turned_there, turned_alike, turned_tableau}
@@ -44,7 +44,7 @@ invariant_of-self-2 c =
     let first = read_as s.rows.items c.args.at c.index.result.now c.requires.row c.index.ensures in
     let so = c.in_ok-solved.ensures.value in
     let tu = c.in_ok-turn_all.ensures.value in
-    let re = subst (λ (r : Row). IsRehomed s.homes.items r.basic c.args.column c.args.at c.rehome.new.homes.items) (some_is _ _ (sym first ∙ is)) c.rehome.ensures in
+    let re = subst (λ (r : Row). IsRehomed s.homes.items r.basic c.args.column c.args.at c.rehome.new.homes.items) (same_Some _ _ (sym first ∙ is)) c.rehome.ensures in
     let count = c.rehome.ensures.count in
     record {
       few = subst (λ n. n < 4294967296) (sym count) s.few;

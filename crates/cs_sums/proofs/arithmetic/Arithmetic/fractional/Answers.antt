@@ -1,7 +1,7 @@
 use Rattle.std.proofs.Common.{List, subst}
 use Rattle.std.specs.Prelude.{IfOk, IfNone}
 use Rattle.vx_frac.specs.declared.Frac.{Frac}
-use Rattle.cs_columns.specs.Splits.{AreWhole}
+use Rattle.cs_sums.specs.Splits.{AreWhole}
 use Rattle.cs_sums.specs.Shown.{columns_of}
 use Rattle.cs_sums.proofs.arithmetic.Arithmetic.fractional.Goals as goal
 

@@ -3,9 +3,10 @@ use Rattle.std.proofs.lemmas.Grind.{common_steps}
 use Rattle.vx_smt_meaning.specs.Views.{command}
 use Rattle.vx_smt_meaning.specs.Dialogues.{is_plain}
 use Rattle.vx_dialogue.specs.Dialogue.{Gathers}
-use Rattle.vx_dialogue.proofs.Lists.{map_take_more, map_whole, plain_at}
+use Rattle.vx_dialogue.proofs.Lists.{map_whole, plain_at}
 use Rattle.vx_dialogue.proofs.History.{breaks_at, breaks_longer}
 use Rattle.std.proofs.lemmas.Result.{err_from_is_err_and}
+use Rattle.std.proofs.lemmas.List.{map_more}
 use Rattle.vx_dialogue.proofs.Steady.{commands_upto}
 use Rattle.vx_dialogue.proofs.dialogue.Dialogue.say_all.Goals as goal
 
@@ -20,7 +21,7 @@ loop-c-preserved g c =
           let this : is_plain (command item) ≡ true = rw c.c-item.is (plain_at command all i item c.loop-c-test.true plain) in
           let next = c.in_ok-say.ensures.told this (commands ++ map command (take i all)) checks (before.told plain commands checks told) in
           let more : map command (take (i + 1) all) ≡ map command (take i all) ++ command item ∷ [] =
-          map_take_more command all i item c.loop-c-test.true ∙ ap (λ x. map command (take i all) ++ command x ∷ []) (sym c.c-item.is) in
+          map_more command all i item c.loop-c-test.true ∙ ap (λ x. map command (take i all) ++ command x ∷ []) (sym c.c-item.is) in
           subst (λ x. Gathers g.L.Link.dialogue c.say.new.self x checks)
           (append_assoc commands (map command (take i all)) (command item ∷ []) ∙ ap (λ x. commands ++ x) (sym more)) next;
       levels = c.say.ensures.same.0 ∙ before.levels;

@@ -1,5 +1,0 @@
-use Rattle.cs_calls.proofs.Large as proved
-use Rattle.cs_calls.proofs.laws.over_is_of_large_numbers.Goals as goal
-
-pub returns : goal.returns
-returns c = proved.over_is_of_large_numbers

@@ -1,6 +1,0 @@
-use Rattle.std.proofs.Common.{take}
-use Rattle.cs_columns.specs.Parts.{AreParts}
-use Rattle.cs_columns.proofs.values.parts_of.Given as goal
-
-abbrev pub invariant-loop-entry : goal.invariant-loop-entry
-invariant-loop-entry l = AreParts l.columns.columns.items (take l.entry-index l.entries) l.parts.items

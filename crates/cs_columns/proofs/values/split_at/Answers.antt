@@ -1,6 +1,0 @@
-use Rattle.cs_columns.proofs.Floors.{parts_it}
-use Rattle.std.proofs.Common.{arith}
-use Rattle.cs_columns.proofs.values.split_at.Goals as goal
-
-pub invariant_of-result : goal.invariant_of-result
-invariant_of-result c = grind (arith, parts_it)

@@ -1,5 +1,0 @@
-pub mod Between
-pub mod Fractional
-pub mod Parts
-pub mod Splits
-pub mod Stops

@@ -1,3 +1,0 @@
-pub mod Hints
-pub mod Bridged
-pub mod Marked

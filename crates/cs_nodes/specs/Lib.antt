@@ -1,4 +1,0 @@
-pub mod Nodes
-pub mod Laws
-pub mod Steps
-pub mod Examples

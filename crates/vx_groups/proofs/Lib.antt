@@ -1,5 +1,0 @@
-mod Numbers
-mod Additions
-mod Told
-mod Bounded
-mod Ways
