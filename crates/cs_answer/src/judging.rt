@@ -20,12 +20,11 @@ ghost use Rattle.cs_answer.specs.Judged.{HasCause, IsByText, IsByChecker, IsByMo
 
 use crate::answer::{Answer, Cause};
 use crate::nonlinear::{has_number, is_nonlinear_at};
-use cs_meter::leaves;
-use cs_sums::Stop;
-use cs_meter::{LIMIT, Meter};
+use cs_meter::{LIMIT, Meter, leaves};
 use cs_model::{Model, is_model};
 use cs_proof::{Checker, Stack, Step, Want, finished_refutes};
 use cs_reader::{Refusal, SymbolIndex, Symbols};
+use cs_sums::Stop;
 use cs_writable::are_writable;
 use std::alloc::Global;
 use vx_frac::Over;
@@ -47,7 +46,8 @@ fn verdict(alloc: Global, stack: &Stack, steps: &[Step]) -> Result<Result<(), Re
 
 /// What a refusal of steps is told as.
 fn refused(refusal: Refusal) -> Stop
-    ensures { (stack : certificates.Stack) → (steps : Vec Step) → ((v : Verdict) → Answers stack (map written steps.items) v ↔ (v ≡ verdict_of refusal)) → IsByChecker stack steps (Err result) }
+    ensures { (stack : certificates.Stack) → (steps : Vec Step) → ((v : Verdict) → Answers stack (map written steps.items) v ↔ (v ≡ verdict_of refusal))
+        → IsByChecker stack steps (Err result) }
 {
     match refusal {
         Refusal::Over(_, op, a, b) => Stop::Over(Over { op, a, b }),

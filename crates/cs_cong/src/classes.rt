@@ -89,7 +89,8 @@ fn follow(
     ensures same_terms { length merges.new.links.items ≡ length merges.old.links.items }
     ensures longer { IsLonger merges.old.log.items merges.new.log.items }
     ensures settled { IfOk result (IsSettled terms.now (current merges.new.log.items)) }
-    ensures stage { (claims : List Claim) → number ≡ length claims → claim.equal ≡ true → IsStage terms.now claims merges.old.log.items → OnOk result (IsStage terms.now (claims ++ claim ∷ []) merges.new.log.items) }
+    ensures stage { (claims : List Claim) → number ≡ length claims → claim.equal ≡ true → IsStage terms.now claims merges.old.log.items
+        → OnOk result (IsStage terms.now (claims ++ claim ∷ []) merges.new.log.items) }
 {
     let mut waiting = known(alloc, terms, merges, waiting)?;
     waiting.join(

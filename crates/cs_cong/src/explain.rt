@@ -223,7 +223,8 @@ impl Classes {
         requires right { b < length self.now.terms.items }
         ensures within { IfOk result (λ found. (k : ℕ) → length self.now.merges.log.items ≤ k → is_marked found k ≡ false) }
         ensures backed { IfOk result (λ found. AreBacked self.now.terms.items self.now.merges.log.items found 0) }
-        ensures marked { IfOk result (λ found. current self.now.merges.log.items a ≡ current self.now.merges.log.items b → AreMarked found (walk self.now.merges.log.items (length self.now.merges.log.items) a b)) }
+        ensures marked { IfOk result (λ found. current self.now.merges.log.items a ≡ current self.now.merges.log.items b
+            → AreMarked found (walk self.now.merges.log.items (length self.now.merges.log.items) a b)) }
     {
         let len = self.merges.log.len() as u32;
         let mut needs = Needs::new(alloc, len);

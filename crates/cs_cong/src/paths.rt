@@ -135,7 +135,8 @@ impl Merges {
         requires left { a < length self.now.links.items }
         requires right { b < length self.now.links.items }
         requires time { time ≤ length self.now.log.items }
-        ensures { OnOk result (representative self.now.log.items time a ≡ representative self.now.log.items time b → edges.new.items ≡ edges.old.items ++ walk self.now.log.items time a b) }
+        ensures { OnOk result (representative self.now.log.items time a ≡ representative self.now.log.items time b
+            → edges.new.items ≡ edges.old.items ++ walk self.now.log.items time a b) }
     {
         let mut pending: Vec<Onward> = Vec::new(alloc);
         let mut until = time;

@@ -104,7 +104,8 @@ impl Waiting {
         requires terms { length terms.now ≡ length merges.now.links.items }
         requires parts { All (λ t. All (λ p. p < length terms.now) t.parts.items) terms.now }
         requires right { a < length terms.now }
-        ensures found { MatchOption result (has_partner terms.now (current merges.now.log.items) self.now.queue self.now.index a ≡ false) (λ n. has_partner terms.now (current merges.now.log.items) self.now.queue self.now.index a ≡ true) }
+        ensures found { MatchOption result (has_partner terms.now (current merges.now.log.items) self.now.queue self.now.index a ≡ false)
+            (λ n. has_partner terms.now (current merges.now.log.items) self.now.queue self.now.index a ≡ true) }
         ensures partner { IfSome result (λ n. is_partner terms.now (current merges.now.log.items) self.now.queue n a ≡ true) }
         ensures within { IfSome result (λ n. n < length terms.now) }
     {

@@ -33,7 +33,8 @@ impl Derivation {
     /// `Want` where memory runs out; the derivation is gone then.
     #[tactic(auto, using(cs_proof::proofs::Fits::weaker_clauses))]
     pub fn name(self, alloc: Global, t: &Rc<Term>) -> Result<(Derivation, u32), Want>
-        ensures { (stack : Stack) → Stands stack (reached self) → IsSorted (term t.now.value) → AreLive stack (term t.now.value) → IsWritableTerm (term t.now.value) → IfOk result (λ x. IsNamed stack (term t.now.value) (reached self) (reached x.0) x.1) }
+        ensures { (stack : Stack) → Stands stack (reached self) → IsSorted (term t.now.value) → AreLive stack (term t.now.value)
+            → IsWritableTerm (term t.now.value) → IfOk result (λ x. IsNamed stack (term t.now.value) (reached self) (reached x.0) x.1) }
     {
         let Derivation {
             mut terms,

@@ -59,7 +59,8 @@ fn read_as(
 ) -> Result<(), Break>
     requires width { length all.now ≤ width to.old }
     requires term { term < length all.now }
-    ensures value { Ends (λ u. sums to.new) result (clean.read_as (clean.read_term (nodes all.now) layers (fraction multiplier)) (fraction multiplier) (fraction factor) term (sums to.old) (Rattle.cs_farkas.specs.Views.reading reading)) }
+    ensures value { Ends (λ u. sums to.new) result (clean.read_as (clean.read_term (nodes all.now) layers (fraction multiplier)) (fraction multiplier)
+        (fraction factor) term (sums to.old) (Rattle.cs_farkas.specs.Views.reading reading)) }
     ensures width { width to.new ≡ width to.old }
 {
     match reading {

@@ -98,7 +98,9 @@ fn with_alias(
     left: &Rc<Term>,
     right: &Rc<Term>,
 ) -> Result<(Derivation, Alias), Want>
-    ensures { (stack : Stack) → IsNaming stack (reached derivation) → Contains (reached derivation).terms (term whole.now.value) → term whole.now.value ≡ equal (term left.now.value) (term right.now.value) → IfOk result (λ x. NamesAlias stack (reached derivation) (reached x.0) (term left.now.value) (term right.now.value) x.1) }
+    ensures { (stack : Stack) → IsNaming stack (reached derivation) → Contains (reached derivation).terms (term whole.now.value)
+        → term whole.now.value ≡ equal (term left.now.value) (term right.now.value)
+        → IfOk result (λ x. NamesAlias stack (reached derivation) (reached x.0) (term left.now.value) (term right.now.value) x.1) }
 {
     let choice = fresh(alloc, derivation.terms(), left)?;
     let same = equality(alloc, &choice, left)?;
@@ -128,7 +130,8 @@ fn needs_alias(
     left: &Rc<Term>,
     right: &Rc<Term>,
 ) -> Result<bool, Want>
-    ensures { IsTable (terms_in terms.now) → term whole.now.value ≡ equal (term left.now.value) (term right.now.value) → IsBehind (terms_in terms.now) (term left.now.value) (term right.now.value) → IfOk result (λ b. b ≡ true) }
+    ensures { IsTable (terms_in terms.now) → term whole.now.value ≡ equal (term left.now.value) (term right.now.value)
+        → IsBehind (terms_in terms.now) (term left.now.value) (term right.now.value) → IfOk result (λ b. b ≡ true) }
 {
     let sort = left.sort()?;
     if sort.is_same(&Sort::Bool) {
@@ -149,7 +152,8 @@ fn with_turned(
     aliases: &mut Vec<Alias>,
     t: &Rc<Term>,
 ) -> Result<Derivation, Want>
-    ensures { (stack : Stack) → IsNaming stack (reached derivation) → Contains (reached derivation).terms (term t.now.value) → IfOk result (λ d. NamesTurned stack (reached derivation) (reached d) aliases.old.items aliases.new.items (term t.now.value)) }
+    ensures { (stack : Stack) → IsNaming stack (reached derivation) → Contains (reached derivation).terms (term t.now.value)
+        → IfOk result (λ d. NamesTurned stack (reached derivation) (reached d) aliases.old.items aliases.new.items (term t.now.value)) }
 {
     let Some((left, right)) = sides(t) else {
         return Ok(derivation);
@@ -170,7 +174,8 @@ pub fn with_aliases(
     derivation: Derivation,
     terms: &[Rc<Term>],
 ) -> Result<(Derivation, Vec<Alias>), Want>
-    ensures { (stack : Stack) → IsNaming stack (reached derivation) → AllIn (reached derivation).terms (map (λ x. term x.value) terms.now) → IfOk result (λ x. NamesAliases stack (reached derivation) (reached x.0) x.1.items (Contains (map (λ x. term x.value) terms.now))) }
+    ensures { (stack : Stack) → IsNaming stack (reached derivation) → AllIn (reached derivation).terms (map (λ x. term x.value) terms.now)
+        → IfOk result (λ x. NamesAliases stack (reached derivation) (reached x.0) x.1.items (Contains (map (λ x. term x.value) terms.now))) }
 {
     let mut derivation = derivation;
     let mut aliases = Vec::new(alloc);

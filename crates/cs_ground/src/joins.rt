@@ -42,7 +42,8 @@ fn add_chains_of_one(
 
 /// The chains of each three of the first terms.
 pub fn add_chains(alloc: Global, derivation: &mut Derivation, count: u32) -> Result<(), Want>
-    ensures { (stack : Stack) → IsClausal stack (reached derivation.old) → OnOk result (Collects stack (OfFirst (IsChainOfOne count) count) (reached derivation.old) (reached derivation.new)) }
+    ensures { (stack : Stack) → IsClausal stack (reached derivation.old)
+        → OnOk result (Collects stack (OfFirst (IsChainOfOne count) count) (reached derivation.old) (reached derivation.new)) }
 {
     for i in 0..count {
         add_chains_of_one(alloc, derivation, count, i)?;
@@ -67,7 +68,8 @@ fn add_congruences_of_one(
 
 /// The congruences of each two of the first terms.
 pub fn add_congruences(alloc: Global, derivation: &mut Derivation, count: u32) -> Result<(), Want>
-    ensures { (stack : Stack) → IsClausal stack (reached derivation.old) → OnOk result (Collects stack (OfFirst (IsCongruenceOfOne count) count) (reached derivation.old) (reached derivation.new)) }
+    ensures { (stack : Stack) → IsClausal stack (reached derivation.old)
+        → OnOk result (Collects stack (OfFirst (IsCongruenceOfOne count) count) (reached derivation.old) (reached derivation.new)) }
 {
     for i in 0..count {
         add_congruences_of_one(alloc, derivation, count, i)?;

@@ -53,7 +53,9 @@ fn add_clauses(
     count: u32,
     aliases: &[Alias],
 ) -> Result<(), Want>
-    ensures { (stack : certificate.Stack) → IsClausal stack (reached derivation.old) → OnOk result (Collects stack (IsWanted assertions (length (reached derivation.old).terms) count aliases.now) (reached derivation.old) (reached derivation.new)) }
+    ensures { (stack : certificate.Stack) → IsClausal stack (reached derivation.old)
+        → OnOk result (Collects stack (IsWanted assertions (length (reached derivation.old).terms) count aliases.now) (reached derivation.old)
+        (reached derivation.new)) }
 {
     let terms = derivation.terms().terms.len() as u32;
     add_inputs(alloc, derivation, assertions)?;

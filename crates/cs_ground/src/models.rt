@@ -35,8 +35,10 @@ pub fn model_of(
     atoms: &Atoms,
     values: &[Value],
 ) -> Result<Model, Stop>
-    ensures { (clauses : List Clause) → IsPlain (seen stack.now) → IsGround (seen stack.now) (reached ground.now.derivation) ground.now.count → AreAtoms (nodes_in ground.now.derivation.nodes) atoms.now.terms.items atoms.now.places.items →
-        Follows (seen stack.now) atoms.now.terms.items (literals clauses) (reached ground.now.derivation) → AreSolving atoms.now.terms.items clauses values.now → IsMade (λ m. AllTrue (interpretation m.entries.items) (seen stack.now).assertions) result }
+    ensures { (clauses : List Clause) → IsPlain (seen stack.now) → IsGround (seen stack.now) (reached ground.now.derivation) ground.now.count
+        → AreAtoms (nodes_in ground.now.derivation.nodes) atoms.now.terms.items atoms.now.places.items →
+        Follows (seen stack.now) atoms.now.terms.items (literals clauses) (reached ground.now.derivation) → AreSolving atoms.now.terms.items clauses values.now
+        → IsMade (λ m. AllTrue (interpretation m.entries.items) (seen stack.now).assertions) result }
 {
     let truths = truths_of(alloc, &atoms.places, values)?;
     let classes = classes_of(alloc, ground.derivation.nodes(), &truths, ground.count)?;

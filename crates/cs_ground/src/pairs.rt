@@ -35,7 +35,9 @@ fn with_equality(
     a: &Rc<Term>,
     b: &Rc<Term>,
 ) -> Result<Derivation, Want>
-    ensures { (stack : Stack) → IsNaming stack (reached derivation) → Contains (reached derivation).terms (term a.now.value) → Contains (reached derivation).terms (term b.now.value) → IfOk result (λ d. NamesWith stack (reached derivation) (reached d) (term a.now.value) (λ y. y ≡ term b.now.value)) }
+    ensures { (stack : Stack) → IsNaming stack (reached derivation) → Contains (reached derivation).terms (term a.now.value)
+        → Contains (reached derivation).terms (term b.now.value)
+        → IfOk result (λ d. NamesWith stack (reached derivation) (reached d) (term a.now.value) (λ y. y ≡ term b.now.value)) }
 {
     if !have_one_sort(a, b)? {
         return Ok(derivation);
@@ -52,7 +54,9 @@ fn with_others(
     a: &Rc<Term>,
     others: &[Rc<Term>],
 ) -> Result<Derivation, Want>
-    ensures { (stack : Stack) → IsNaming stack (reached derivation) → Contains (reached derivation).terms (term a.now.value) → AllIn (reached derivation).terms (map (λ x. term x.value) others.now) → IfOk result (λ d. NamesWith stack (reached derivation) (reached d) (term a.now.value) (Contains (map (λ x. term x.value) others.now))) }
+    ensures { (stack : Stack) → IsNaming stack (reached derivation) → Contains (reached derivation).terms (term a.now.value)
+        → AllIn (reached derivation).terms (map (λ x. term x.value) others.now)
+        → IfOk result (λ d. NamesWith stack (reached derivation) (reached d) (term a.now.value) (Contains (map (λ x. term x.value) others.now))) }
 {
     let mut derivation = derivation;
     for b in others {
@@ -67,7 +71,8 @@ pub fn with_pairs(
     derivation: Derivation,
     terms: &[Rc<Term>],
 ) -> Result<Derivation, Want>
-    ensures { (stack : Stack) → IsNaming stack (reached derivation) → AllIn (reached derivation).terms (map (λ x. term x.value) terms.now) → IfOk result (λ d. NamesPairs stack (reached derivation) (reached d) (map (λ x. term x.value) terms.now)) }
+    ensures { (stack : Stack) → IsNaming stack (reached derivation) → AllIn (reached derivation).terms (map (λ x. term x.value) terms.now)
+        → IfOk result (λ d. NamesPairs stack (reached derivation) (reached d) (map (λ x. term x.value) terms.now)) }
 {
     let mut derivation = derivation;
     for at in 0..terms.len() {

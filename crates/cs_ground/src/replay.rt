@@ -16,8 +16,8 @@ ghost use Rattle.cs_ground.specs.Atoms.{literals};
 ghost use Rattle.cs_ground.specs.Replayed.{Follows, IsLearned};
 
 use crate::atoms::names;
-use cs_derivation::{Derivation, empty_clauses_finish};
 use cs_certificate::{Clause, Literal};
+use cs_derivation::{Derivation, empty_clauses_finish};
 use cs_proof::{Step, Want};
 use cs_search::search::{Hints, Search};
 use cs_table::Stop;
@@ -53,7 +53,8 @@ fn tell(
     hints: &Hints,
 ) -> Result<(), Stop>
     requires { All (λ l. l.number < length atoms.now) literals.now }
-    ensures { (stack : Stack) (clauses : List Clause) → Follows stack atoms.now (Rattle.cs_ground.specs.Atoms.literals clauses) (reached derivation.old) → IsLearned atoms.now clauses literals.now hints.now.numbers.items →
+    ensures { (stack : Stack) (clauses : List Clause) → Follows stack atoms.now (Rattle.cs_ground.specs.Atoms.literals clauses) (reached derivation.old)
+        → IsLearned atoms.now clauses literals.now hints.now.numbers.items →
         IsMade (λ u. Follows stack atoms.now (Rattle.cs_ground.specs.Atoms.literals clauses ++ literals.now ∷ []) (reached derivation.new)) result }
 {
     let literals = names(alloc, atoms, literals)?;
@@ -102,7 +103,8 @@ pub fn steps_of(
     last: &Hints,
 ) -> Result<Vec<Step>, Stop>
     requires { AreKnown search.now.clauses.items (length atoms.now) }
-    ensures { (stack : Stack) (first : List Clause) → Follows stack atoms.now (literals first) (reached derivation) → Learns first [] search.now.clauses.items search.now.steps.items → IsDerived search.now.clauses.items [] (reverse last.now.numbers.items) →
+    ensures { (stack : Stack) (first : List Clause) → Follows stack atoms.now (literals first) (reached derivation)
+        → Learns first [] search.now.clauses.items search.now.steps.items → IsDerived search.now.clauses.items [] (reverse last.now.numbers.items) →
         IsMade (λ v. Answers stack (map written v.items) Finished × AreWritable (map written v.items)) result }
 {
     let mut derivation = derivation;

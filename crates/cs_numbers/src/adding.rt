@@ -48,7 +48,8 @@ fn parted(left: &[Occurrence]) -> Option<(&Occurrence, &[Occurrence], &[Occurren
     ensures within { IfSome result (λ p. seen p.1.now ≡ reverse (inner (term p.0.now.of.value))) }
     ensures others { IfSome result (λ p. IsForest (seen p.2.now)) }
     ensures first { IfSome result (λ p. (ts : List spec.Term) → seen left.now ≡ reverse (parts_of ts) → IsFirst ts (term p.0.now.of.value) (seen p.2.now)) }
-    ensures same { IfSome result (λ p. (terms : List spec.Term) → added terms (reverse (seen left.now)) ≡ added (added terms (subterms (term p.0.now.of.value))) (reverse (seen p.2.now))) }
+    ensures same { IfSome result (λ p. (terms : List spec.Term)
+        → added terms (reverse (seen left.now)) ≡ added (added terms (subterms (term p.0.now.of.value))) (reverse (seen p.2.now))) }
 {
     let Some((last, before)) = left.split_last() else {
         return None;

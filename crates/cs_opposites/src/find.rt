@@ -41,7 +41,8 @@ fn enter(
     t: &Rc<Term>,
     place: u32,
 ) -> Result<(), Stop>
-    ensures { (ts : List clean.Term) → length ts ≡ place → AreEntered (terms_in terms.now) ts places.old.items → OnOk result (AreEntered (terms_in terms.now) (ts ++ term t.now.value ∷ []) places.new.items) }
+    ensures { (ts : List clean.Term) → length ts ≡ place → AreEntered (terms_in terms.now) ts places.old.items
+        → OnOk result (AreEntered (terms_in terms.now) (ts ++ term t.now.value ∷ []) places.new.items) }
 {
     let number = place_of(terms, t)? as usize;
     if number >= places.len() {

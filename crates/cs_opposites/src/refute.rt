@@ -43,7 +43,8 @@ fn refute_false(
     assertions: &[Rc<Term>],
     place: u32,
 ) -> Result<(), Stop>
-    ensures { (stack : certificate.Stack) → stack.assertions ≡ map (λ x. term x.value) assertions.now → Has stack [] (reached derivation.old) → At stack.assertions place (Truth false) →
+    ensures { (stack : certificate.Stack) → stack.assertions ≡ map (λ x. term x.value) assertions.now → Has stack [] (reached derivation.old)
+        → At stack.assertions place (Truth false) →
         IsMade (λ u. HasEmpty stack (reached derivation.new)) result }
 {
     let t = assertion_at(assertions, place)?;
@@ -60,7 +61,8 @@ fn refute_both(
     place: u32,
     denied: u32,
 ) -> Result<(), Stop>
-    ensures { (stack : certificate.Stack) → stack.assertions ≡ map (λ x. term x.value) assertions.now → Has stack [] (reached derivation.old) → (t : clean.Term) → At stack.assertions place t → At stack.assertions denied (Not t) →
+    ensures { (stack : certificate.Stack) → stack.assertions ≡ map (λ x. term x.value) assertions.now → Has stack [] (reached derivation.old) → (t : clean.Term)
+        → At stack.assertions place t → At stack.assertions denied (Not t) →
         IsMade (λ u. HasEmpty stack (reached derivation.new)) result }
 {
     let t = assertion_at(assertions, denied)?;
@@ -77,7 +79,8 @@ fn refute(
     assertions: &[Rc<Term>],
     opposites: Opposites,
 ) -> Result<(), Stop>
-    ensures { (stack : certificate.Stack) → stack.assertions ≡ map (λ x. term x.value) assertions.now → Has stack [] (reached derivation.old) → AreOpposites stack.assertions opposites →
+    ensures { (stack : certificate.Stack) → stack.assertions ≡ map (λ x. term x.value) assertions.now → Has stack [] (reached derivation.old)
+        → AreOpposites stack.assertions opposites →
         IsMade (λ u. HasEmpty stack (reached derivation.new)) result }
 {
     match opposites {

@@ -34,7 +34,8 @@ pub fn begun(alloc: Global, assertions: &[Rc<Term>]) -> Result<Derivation, Stop>
 /// # Errors
 /// `Miss` where there is none; `Want` where memory runs out.
 pub fn input(alloc: Global, derivation: &mut Derivation, place: u32) -> Result<u32, Stop>
-    ensures { (stack : Stack) (cs : List Clause) (t : clean.Term) → Has stack cs (reached derivation.old) → At stack.assertions place t → IsMade (Gains stack cs (Yes t ∷ []) (reached derivation.new)) result }
+    ensures { (stack : Stack) (cs : List Clause) (t : clean.Term) → Has stack cs (reached derivation.old) → At stack.assertions place t
+        → IsMade (Gains stack cs (Yes t ∷ []) (reached derivation.new)) result }
 {
     match derivation.input(alloc, place) {
         Ok(Some(number)) => Ok(number),
@@ -48,7 +49,8 @@ pub fn input(alloc: Global, derivation: &mut Derivation, place: u32) -> Result<u
 /// # Errors
 /// `Miss` where the term has no row, or no number; `Want` where memory runs out.
 pub fn first_row(alloc: Global, derivation: &mut Derivation, t: &Rc<Term>) -> Result<u32, Stop>
-    ensures { (stack : Stack) (cs : List Clause) (c : Clause) → Has stack cs (reached derivation.old) → Contains stack.assertions (term t.now.value) → Defines (term t.now.value) 0 c → IsMade (Gains stack cs c (reached derivation.new)) result }
+    ensures { (stack : Stack) (cs : List Clause) (c : Clause) → Has stack cs (reached derivation.old) → Contains stack.assertions (term t.now.value)
+        → Defines (term t.now.value) 0 c → IsMade (Gains stack cs c (reached derivation.new)) result }
 {
     let number = place_of(derivation.terms(), t)?;
     match derivation.define(alloc, number, 0) {
@@ -63,7 +65,8 @@ pub fn first_row(alloc: Global, derivation: &mut Derivation, t: &Rc<Term>) -> Re
 /// # Errors
 /// `Miss` where they don't derive it; `Want` where memory runs out.
 pub fn empty(alloc: Global, derivation: &mut Derivation, hints: &[u32]) -> Result<(), Stop>
-    ensures { (stack : Stack) (cs : List Clause) → Has stack cs (reached derivation.old) → Refutes (with_clauses stack cs) [] hints.now → IsMade (λ u. Has stack (cs ++ [] ∷ []) (reached derivation.new)) result }
+    ensures { (stack : Stack) (cs : List Clause) → Has stack cs (reached derivation.old) → Refutes (with_clauses stack cs) [] hints.now
+        → IsMade (λ u. Has stack (cs ++ [] ∷ []) (reached derivation.new)) result }
 {
     match derivation.propagate(alloc, &[], hints) {
         Ok(Some(_)) => Ok(()),

@@ -18,8 +18,8 @@ use crate::plans::{Plans, plan_all, roots_of};
 use crate::prepare::Duty;
 use crate::stack::Stack;
 use crate::step::{Step, steps_of};
-use cs_farkas::{Break, Combination, Sums, refutes};
 use cs_certificate::{Clause, Marks, refutes_by};
+use cs_farkas::{Break, Combination, Sums, refutes};
 use cs_numbers::{extend, number};
 use cs_reader::{Certificate, Refusal, SymbolIndex, Symbols};
 use cs_table::{Node, Stop, Table};
@@ -184,7 +184,8 @@ impl Checker {
     /// `Want` where memory runs out.
     pub fn new(alloc: Global, stack: &Stack, certificate: Certificate) -> Result<Checker, Want>
         ensures value { IfOk result (λ c. Begins (plans.plans_of (seen stack.now) (all_meant (seen stack.now) (seen_certificate certificate))) (checker c)) }
-        ensures answers { Each IsSorted (seen stack.now).assertions → (v : clean.Verdict) → IfOk result (λ c. Answers (seen stack.now) (all_meant (seen stack.now) (seen_certificate certificate)) v ↔ (v ≡ clean.verdict (checker c))) }
+        ensures answers { Each IsSorted (seen stack.now).assertions → (v : clean.Verdict)
+            → IfOk result (λ c. Answers (seen stack.now) (all_meant (seen stack.now) (seen_certificate certificate)) v ↔ (v ≡ clean.verdict (checker c))) }
     {
         let declared: &[Declared] = &stack.symbols;
         let index = SymbolIndex::of(alloc, declared)?;
@@ -205,7 +206,8 @@ impl Checker {
     ) -> Result<Checker, Want>
         requires { symbols.now.declared.now ≡ stack.now.symbols.items }
         ensures value { IfOk result (λ c. Begins (plans.plans_of (seen stack.now) (map written steps.now)) (checker c)) }
-        ensures answers { Each IsSorted (seen stack.now).assertions → (v : clean.Verdict) → IfOk result (λ c. Answers (seen stack.now) (map written steps.now) v ↔ (v ≡ clean.verdict (checker c))) }
+        ensures answers { Each IsSorted (seen stack.now).assertions → (v : clean.Verdict)
+            → IfOk result (λ c. Answers (seen stack.now) (map written steps.now) v ↔ (v ≡ clean.verdict (checker c))) }
     {
         let plans = plans_of(alloc, stack, symbols, steps)?;
         if plans.duties.len() >= 1 << 32 {

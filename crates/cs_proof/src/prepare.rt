@@ -14,8 +14,8 @@ ghost use Rattle.cs_proof.specs.Views.{written, numbered, duty, IsFit, IsFitClau
 
 use crate::narrow::{clause_within, narrow, narrow_all, narrow_literals, saturated, turned};
 use crate::step::Step;
-use cs_farkas::{Combination, combination_of};
 use cs_certificate::Clause;
+use cs_farkas::{Combination, combination_of};
 use cs_table::{
     Literal, Node, Stop, Table, chain, congruence, define, divide, pick, split, trichotomy,
 };

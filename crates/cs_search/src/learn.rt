@@ -86,7 +86,8 @@ pub fn teach(search: &mut Search, clause: Clause) -> Result<(), AllocError>
     requires all_false { IsFalse search.old.made.values.items (length search.old.made.trail.items) clause.literals.items }
     ensures sound { OnOk result (IsReady search.new) }
     ensures clauses { OnOk result (search.new.clauses.items ≡ search.old.clauses.items ++ clause ∷ []) }
-    ensures forces { OnOk result ((clause.literals.items ≡ []) ⊎ ((forced : Literal) × Forces search.new.made.values.items (length search.new.made.trail.items) clause.literals.items forced)) }
+    ensures forces { OnOk result ((clause.literals.items ≡ [])
+        ⊎ ((forced : Literal) × Forces search.new.made.values.items (length search.new.made.trail.items) clause.literals.items forced)) }
     ensures width { OnOk result (length search.new.made.values.items ≡ length search.old.made.values.items) }
 {
     let cut = cut_for(&search.made, &clause.literals, &search.clauses);
@@ -106,7 +107,8 @@ pub fn learn(search: &mut Search, clause: Clause, meter: &mut Meter) -> Result<(
     ensures sound { OnOk result (IsReady search.new) }
     ensures clauses { OnOk result (search.new.clauses.items ≡ search.old.clauses.items ++ clause ∷ []) }
     ensures uncovered { OnOk result (IsUncovered search.old.clauses.items clause.literals.items) }
-    ensures forces { OnOk result ((clause.literals.items ≡ []) ⊎ ((forced : Literal) × Forces search.new.made.values.items (length search.new.made.trail.items) clause.literals.items forced)) }
+    ensures forces { OnOk result ((clause.literals.items ≡ [])
+        ⊎ ((forced : Literal) × Forces search.new.made.values.items (length search.new.made.trail.items) clause.literals.items forced)) }
     ensures spent { OnOk result (meter.new.spent ≡ meter.old.spent + 1) }
     ensures budget { IfErr result (λ e. e ≡ Undecided.Budget → meter.new.spent ≡ limit) }
 {

@@ -169,7 +169,8 @@ pub fn turn(
     ensures head { OnOk result (queue.new.head ≡ queue.old.head) }
     ensures count { OnOk result (length queue.new.watches.items ≡ length queue.old.watches.items) }
     ensures conflict { IfOk result (λ r. IfNone r (IsConflict clauses.now made.new.values.items (length made.new.trail.items) number)) }
-    ensures held { IfOk result (λ r. IfSome r (AreHeldBut clauses.now queue.new.watches.items made.new.values.items (queue.new.head + 1) (length made.new.trail.items) (row queue.new.rows.items (slot away)))) }
+    ensures held { IfOk result (λ r. IfSome r (AreHeldBut clauses.now queue.new.watches.items made.new.values.items (queue.new.head + 1)
+        (length made.new.trail.items) (row queue.new.rows.items (slot away)))) }
     ensures less { IfOk result (λ r. IfSome r (λ next. length (row queue.new.rows.items (slot away)) + k + 1 ≡ length (row queue.old.rows.items (slot away)) + next)) }
 {
     let seen = visit(alloc, clauses, made, queue, number, away)?;

@@ -208,7 +208,8 @@ pub fn spread(alloc: Global, search: &mut Search) -> Result<Option<usize>, Alloc
     ensures width { OnOk result (length search.new.made.values.items ≡ length search.old.made.values.items) }
     ensures fewer { OnOk result (unset_count search.new.made.values.items ≤ unset_count search.old.made.values.items) }
     ensures conflict { IfOk result (λ found. IfSome found (IsConflict search.new.clauses.items search.new.made.values.items (length search.new.made.trail.items))) }
-    ensures closed { IfOk result (λ found. IfNone found (AreClosed search.new.clauses.items search.new.made.values.items (length search.new.made.trail.items) (length search.new.clauses.items))) }
+    ensures closed { IfOk result (λ found. IfNone found (AreClosed search.new.clauses.items search.new.made.values.items (length search.new.made.trail.items)
+        (length search.new.clauses.items))) }
     ensures walked { IfOk result (λ found. IfNone found (search.new.queue.head ≡ length search.new.made.trail.items)) }
 {
     let found = propagate(alloc, &search.clauses, &mut search.made, &mut search.queue)?;

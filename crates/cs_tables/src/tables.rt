@@ -51,7 +51,8 @@ fn with_node(
     number: usize,
     node: &Node,
 ) -> Result<Vec<Entry>, AllocError>
-    ensures { IfOk result (λ v. written.lines v.items ≡ written.lines entries.items ++ written.line_of (told_at (views.nodes nodes.now) truths.now classes.now) number (views.head node.now.head) node.now.parts.items) }
+    ensures { IfOk result (λ v. written.lines v.items ≡ written.lines entries.items
+        ++ written.line_of (told_at (views.nodes nodes.now) truths.now classes.now) number (views.head node.now.head) node.now.parts.items) }
 {
     let mut entries = entries;
     match &node.head {
@@ -90,8 +91,10 @@ pub fn tables_over(
     truths: &[bool],
     classes: &[u32],
 ) -> Result<Model, AllocError>
-    ensures tables { (all : List Term) (s : Assignment) → Represents (views.nodes nodes.now) all → Tells all truths.now classes.now s → IfOk result (λ m. Tabulates all s m.entries.items) }
-    ensures models { (assertions : List Term) (s : Assignment) → IsAssigned assertions s → Represents (views.nodes nodes.now) (numbered assertions) → Tells (numbered assertions) truths.now classes.now s → IfOk result (λ m. AllTrue (interpretation m.entries.items) assertions) }
+    ensures tables { (all : List Term) (s : Assignment) → Represents (views.nodes nodes.now) all → Tells all truths.now classes.now s
+        → IfOk result (λ m. Tabulates all s m.entries.items) }
+    ensures models { (assertions : List Term) (s : Assignment) → IsAssigned assertions s → Represents (views.nodes nodes.now) (numbered assertions)
+        → Tells (numbered assertions) truths.now classes.now s → IfOk result (λ m. AllTrue (interpretation m.entries.items) assertions) }
 {
     let entries = entries_of(alloc, nodes, truths, classes)?;
     Ok(Model { entries })
@@ -107,8 +110,10 @@ pub fn tables_of(
     truths: &[bool],
     classes: &[u32],
 ) -> Result<Model, Stop>
-    ensures tables { (s : Assignment) → IsTable (terms_in terms.now) → Tells (terms_in terms.now) truths.now classes.now s → IsMade (λ m. Tabulates (terms_in terms.now) s m.entries.items) result }
-    ensures models { (assertions : List Term) (s : Assignment) → terms_in terms.now ≡ numbered assertions → IsAssigned assertions s → Tells (numbered assertions) truths.now classes.now s → IsMade (λ m. AllTrue (interpretation m.entries.items) assertions) result }
+    ensures tables { (s : Assignment) → IsTable (terms_in terms.now) → Tells (terms_in terms.now) truths.now classes.now s
+        → IsMade (λ m. Tabulates (terms_in terms.now) s m.entries.items) result }
+    ensures models { (assertions : List Term) (s : Assignment) → terms_in terms.now ≡ numbered assertions → IsAssigned assertions s
+        → Tells (numbered assertions) truths.now classes.now s → IsMade (λ m. AllTrue (interpretation m.entries.items) assertions) result }
 {
     let nodes = nodes_of(alloc, terms)?;
     Ok(tables_over(alloc, &nodes, truths, classes)?)

@@ -215,7 +215,8 @@ fn add_callee(
 ) -> Result<(), AllocError>
     requires { length rows.old.items ≡ length (settled program.now) }
     ensures members { OnOk result (length rows.new.items ≡ length rows.old.items) }
-    ensures added { OnOk result (Adds (settled program.now) by.0 (mentioned_by_contract (method_named (settled program.now) (string_bytes name.now.value))) rows.old.items rows.new.items) }
+    ensures added { OnOk result (Adds (settled program.now) by.0
+        (mentioned_by_contract (method_named (settled program.now) (string_bytes name.now.value))) rows.old.items rows.new.items) }
 {
     match program.method(name)? {
         None => Ok(()),
@@ -393,7 +394,8 @@ fn add_function(
 ) -> Result<(), AllocError>
     requires { length rows.old.items ≡ length (settled program.now) }
     ensures members { OnOk result (length rows.new.items ≡ length rows.old.items) }
-    ensures added { OnOk result (Adds (settled program.now) by.0 (mentioned_by_kind (settled program.now) (Some (IsFunction (resolved.function f.now)))) rows.old.items rows.new.items) }
+    ensures added { OnOk result (Adds (settled program.now) by.0
+        (mentioned_by_kind (settled program.now) (Some (IsFunction (resolved.function f.now)))) rows.old.items rows.new.items) }
 {
     add_parts(rows, program, by, f)?;
     add_measure(rows, program, by, &f.measure)

@@ -29,7 +29,9 @@ fn take_frame(
     heap: &Rc<SymHeap>,
     hole: &Rc<Hole>,
 ) -> Result<Frame, AllocError>
-    ensures { IfOk result (λ f. frame_tree (settled program.now) f ≡ (λ s. take_instance (settled program.now) instance.place (string_bytes instance.predicate.value) (values instance.arguments.value) (held_term instance.amount) (code_of code) (heap_of heap.now.value) s (λ v s1. tree.Step (giving (settled program.now) hole.now.value v s1)))) }
+    ensures { IfOk result (λ f. frame_tree (settled program.now) f
+        ≡ (λ s. take_instance (settled program.now) instance.place (string_bytes instance.predicate.value) (values instance.arguments.value)
+        (held_term instance.amount) (code_of code) (heap_of heap.now.value) s (λ v s1. tree.Step (giving (settled program.now) hole.now.value v s1)))) }
 {
     let _program = program;
     let after = Rc::new(alloc, Hole::Consumed(Consumed::Snapshot, hole.clone()?))?;
@@ -52,7 +54,10 @@ pub fn step_held(
     state: SymState,
     conts: &mut Conts,
 ) -> Result<Move, AllocError>
-    ensures { IfOk result (λ m. Stepped (settled program.now) (taking_instance (settled program.now) place (string_bytes predicate.now.value) (values arguments.now.value) (multiply (held_term x.now.scale) (held_term share.now)) (code_of x.now.codes.permission) (heap_of heap.now.value) (state_of state) (λ v s. tree.Step (giving (settled program.now) hole.now.value v s))) conts.old.sides.items m conts.new.sides.items) }
+    ensures { IfOk result (λ m. Stepped (settled program.now)
+        (taking_instance (settled program.now) place (string_bytes predicate.now.value) (values arguments.now.value)
+        (multiply (held_term x.now.scale) (held_term share.now)) (code_of x.now.codes.permission) (heap_of heap.now.value) (state_of state)
+        (λ v s. tree.Step (giving (settled program.now) hole.now.value v s))) conts.old.sides.items m conts.new.sides.items) }
 {
     let amount = arithmetic::mul(alloc, &x.scale, share)?;
     let allowed = not_negative(alloc, &amount)?;

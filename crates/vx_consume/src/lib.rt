@@ -63,7 +63,10 @@ fn parts(
     x: &Rc<Consumption>,
     hole: Rc<Hole>,
 ) -> Result<Next, AllocError>
-    ensures { IfOk result (λ n. going (settled program.now) n ≡ (λ s. consuming (settled program.now) (assertion left.now.value) x.now.value s (λ t s1. consuming (settled program.now) (assertion right.now.value) x.now.value s1 (λ u s2. tree.Step (giving (settled program.now) hole.value (built.pair t u) (rule.with_built_pair (context x.now.value.codes) t u s2)))))) }
+    ensures { IfOk result (λ n. going (settled program.now) n
+        ≡ (λ s. consuming (settled program.now) (assertion left.now.value) x.now.value s
+        (λ t s1. consuming (settled program.now) (assertion right.now.value) x.now.value s1
+        (λ u s2. tree.Step (giving (settled program.now) hole.value (built.pair t u) (rule.with_built_pair (context x.now.value.codes) t u s2)))))) }
 {
     let _program = program;
     let after = Consumed::Right(right.clone()?, x.clone()?);
@@ -81,7 +84,9 @@ pub fn step(
     state: SymState,
     conts: &mut Conts,
 ) -> Result<Move, AllocError>
-    ensures { IfOk result (λ m. Stepped (settled program.now) (consuming (settled program.now) (assertion a.now) x.now.value (state_of state) (giving (settled program.now) hole.value)) conts.old.sides.items m conts.new.sides.items) }
+    ensures { IfOk result (λ m. Stepped (settled program.now)
+        (consuming (settled program.now) (assertion a.now) x.now.value (state_of state) (giving (settled program.now) hole.value)) conts.old.sides.items m
+        conts.new.sides.items) }
 {
     match a {
         Assertion::Pure(e) => {
@@ -139,7 +144,9 @@ pub fn step_here(
     state: SymState,
     conts: &mut Conts,
 ) -> Result<Move, AllocError>
-    ensures { IfOk result (λ m. Stepped (settled program.now) (rule.consume (settled program.now) (rules (settled program.now)) (assertion a.now) (context codes) (held_term scale.now) (state_of state).heap (state_of state) (giving (settled program.now) hole.now.value)) conts.old.sides.items m conts.new.sides.items) }
+    ensures { IfOk result (λ m. Stepped (settled program.now)
+        (rule.consume (settled program.now) (rules (settled program.now)) (assertion a.now) (context codes) (held_term scale.now) (state_of state).heap
+        (state_of state) (giving (settled program.now) hole.now.value)) conts.old.sides.items m conts.new.sides.items) }
 {
     let scale = scale.clone()?;
     let start = state.heap.clone()?;
@@ -179,7 +186,9 @@ pub fn step_consumed(
     conts: &mut Conts,
 ) -> Result<Move, AllocError>
     requires { is_evaluated consumed.now ≡ true }
-    ensures { IfOk result (λ m. Stepped (settled program.now) (consumed_of (settled program.now) consumed.now (giving (settled program.now) hole.now.value) (held_term value) (state_of state)) conts.old.sides.items m conts.new.sides.items) }
+    ensures { IfOk result (λ m. Stepped (settled program.now)
+        (consumed_of (settled program.now) consumed.now (giving (settled program.now) hole.now.value) (held_term value) (state_of state)) conts.old.sides.items
+        m conts.new.sides.items) }
 {
     match consumed {
         Consumed::Ask(place, code, heap) => {
@@ -226,7 +235,8 @@ pub fn step_unit(
     state: SymState,
     conts: &mut Conts,
 ) -> Result<Move, AllocError>
-    ensures { IfOk result (λ m. Stepped (settled program.now) (going (settled program.now) (Next.Unit heap.now hole.now) (state_of state)) conts.old.sides.items m conts.new.sides.items) }
+    ensures { IfOk result (λ m. Stepped (settled program.now) (going (settled program.now) (Next.Unit heap.now hole.now) (state_of state)) conts.old.sides.items
+        m conts.new.sides.items) }
 {
     let unit = snapshots::unit(alloc)?;
     let mut state = state;

@@ -31,7 +31,10 @@ fn take_frame(
     heap: &Rc<SymHeap>,
     hole: &Rc<Hole>,
 ) -> Result<Frame, AllocError>
-    ensures { IfOk result (λ f. frame_tree (settled program.now) f ≡ (λ s. take_location (settled program.now) location.place (string_bytes location.field.value) (held_term location.receiver) (held_term location.amount) (code_of codes.permission) (heap_of heap.now.value) s (wrapped (settled program.now) (string_bytes location.field.value) (context codes) (giving (settled program.now) hole.now.value)))) }
+    ensures { IfOk result (λ f. frame_tree (settled program.now) f
+        ≡ (λ s. take_location (settled program.now) location.place (string_bytes location.field.value) (held_term location.receiver) (held_term location.amount)
+        (code_of codes.permission) (heap_of heap.now.value) s (wrapped (settled program.now) (string_bytes location.field.value) (context codes)
+        (giving (settled program.now) hole.now.value)))) }
 {
     let _program = program;
     let after = hole_of_wrap(alloc, &location.field, codes, hole)?;
@@ -54,7 +57,11 @@ pub fn step_amount(
     state: SymState,
     conts: &mut Conts,
 ) -> Result<Move, AllocError>
-    ensures { IfOk result (λ m. Stepped (settled program.now) (taking (settled program.now) place (string_bytes field.now.value) (held_term receiver.now) (multiply (held_term x.now.scale) (held_term share.now)) (code_of x.now.codes.permission) (heap_of heap.now.value) (state_of state) (wrapped (settled program.now) (string_bytes field.now.value) (context x.now.codes) (giving (settled program.now) hole.now.value))) conts.old.sides.items m conts.new.sides.items) }
+    ensures { IfOk result (λ m. Stepped (settled program.now)
+        (taking (settled program.now) place (string_bytes field.now.value) (held_term receiver.now) (multiply (held_term x.now.scale) (held_term share.now))
+        (code_of x.now.codes.permission) (heap_of heap.now.value) (state_of state)
+        (wrapped (settled program.now) (string_bytes field.now.value) (context x.now.codes) (giving (settled program.now) hole.now.value)))
+        conts.old.sides.items m conts.new.sides.items) }
 {
     let amount = arithmetic::mul(alloc, &x.scale, share)?;
     let allowed = not_negative(alloc, &amount)?;
@@ -96,7 +103,9 @@ pub fn step_wrap(
     state: SymState,
     conts: &mut Conts,
 ) -> Result<Move, AllocError>
-    ensures { IfOk result (λ m. Stepped (settled program.now) (wrapped (settled program.now) (string_bytes field.now.value) (context codes) (giving (settled program.now) hole.now.value) (held_term value.now) (state_of state)) conts.old.sides.items m conts.new.sides.items) }
+    ensures { IfOk result (λ m. Stepped (settled program.now)
+        (wrapped (settled program.now) (string_bytes field.now.value) (context codes) (giving (settled program.now) hole.now.value) (held_term value.now)
+        (state_of state)) conts.old.sides.items m conts.new.sides.items) }
 {
     let of = field_sort(program, field);
     let snapshot = snapshots::wrap(alloc, &of, value)?;

@@ -27,7 +27,8 @@ fn frame_of(
     x: &Rc<Consumption>,
     hole: &Rc<Hole>,
 ) -> Result<Frame, AllocError>
-    ensures { IfOk result (λ f. frame_tree (settled program.now) f ≡ (λ s. consuming (settled program.now) (assertion a.now.value) x.now.value s (giving (settled program.now) hole.now.value))) }
+    ensures { IfOk result (λ f. frame_tree (settled program.now) f
+        ≡ (λ s. consuming (settled program.now) (assertion a.now.value) x.now.value s (giving (settled program.now) hole.now.value))) }
 {
     let _program = program;
     let consume = Next::ConsumeFrom(a.clone()?, x.clone()?, hole.clone()?);
@@ -55,7 +56,9 @@ pub fn step_implied(
     state: SymState,
     conts: &mut Conts,
 ) -> Result<Move, AllocError>
-    ensures { IfOk result (λ m. Stepped (settled program.now) (rule.fork (held_term condition) (with_heap (heap_of heap.now.value) (state_of state)) (λ s. consuming (settled program.now) (assertion a.now.value) x.now.value s (giving (settled program.now) hole.now.value)) (giving (settled program.now) hole.now.value built.unit)) conts.old.sides.items m conts.new.sides.items) }
+    ensures { IfOk result (λ m. Stepped (settled program.now) (rule.fork (held_term condition) (with_heap (heap_of heap.now.value) (state_of state))
+        (λ s. consuming (settled program.now) (assertion a.now.value) x.now.value s (giving (settled program.now) hole.now.value))
+        (giving (settled program.now) hole.now.value built.unit)) conts.old.sides.items m conts.new.sides.items) }
 {
     let state = in_heap(heap, state)?;
     let left = frame_of(alloc, program, a, x, hole)?;
@@ -76,7 +79,10 @@ pub fn step_chosen(
     state: SymState,
     conts: &mut Conts,
 ) -> Result<Move, AllocError>
-    ensures { IfOk result (λ m. Stepped (settled program.now) (rule.fork (held_term condition) (with_heap (heap_of heap.now.value) (state_of state)) (λ s. consuming (settled program.now) (assertion a.now.value) x.now.value s (giving (settled program.now) hole.now.value)) (λ s. consuming (settled program.now) (assertion b.now.value) x.now.value s (giving (settled program.now) hole.now.value))) conts.old.sides.items m conts.new.sides.items) }
+    ensures { IfOk result (λ m. Stepped (settled program.now) (rule.fork (held_term condition) (with_heap (heap_of heap.now.value) (state_of state))
+        (λ s. consuming (settled program.now) (assertion a.now.value) x.now.value s (giving (settled program.now) hole.now.value))
+        (λ s. consuming (settled program.now) (assertion b.now.value) x.now.value s (giving (settled program.now) hole.now.value))) conts.old.sides.items m
+        conts.new.sides.items) }
 {
     let state = in_heap(heap, state)?;
     let left = frame_of(alloc, program, a, x, hole)?;

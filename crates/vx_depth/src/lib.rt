@@ -41,7 +41,8 @@ pub fn entered_members()
 pub fn members_within_themselves()
     ensures function { NoneWithinItself applies_itself → ⊥ }
     ensures function_asks { (q : Question) × ((walk (tree applies_itself f (IsFunction applies_itself_f)) []).ending ≡ Open q) × (q.place ≡ nowhere) }
-    ensures function_goes_on { tree_over applies_itself (outer applies_itself (suc (depth applies_itself))) f (IsFunction applies_itself_f) ≡ tree applies_itself f (IsFunction applies_itself_f) → ⊥ }
+    ensures function_goes_on { tree_over applies_itself (outer applies_itself (suc (depth applies_itself))) f (IsFunction applies_itself_f)
+        ≡ tree applies_itself f (IsFunction applies_itself_f) → ⊥ }
     ensures predicate { NoneWithinItself unfolds_itself → ⊥ }
     ensures predicate_asks { (q : Question) × ((walk (tree unfolds_itself P (IsPredicate unfolds_itself_P)) []).ending ≡ Open q) × (q.place ≡ nowhere) }
 {}

@@ -67,10 +67,12 @@ impl<L: Link> Dialogue<L> {
         ensures told { OnOk result ((commands : List Spec.Command) (checks : List Check) → Gathers L.dialogue self.old commands checks → Gathers L.dialogue self.new commands checks) }
         ensures count { OnOk result (self.new.count ≡ 0) }
         ensures same { (self.new.levels ≡ self.old.levels) × (self.new.owed ≡ self.old.owed) × (self.new.failed ≡ self.old.failed) }
-        ensures fault { IfErr result (λ talk. (commands : List Spec.Command) (checks : List Check) → Gathers L.dialogue self.old commands checks → AreCommands commands → Breaks talk commands (L.dialogue self.new.link) checks) }
+        ensures fault { IfErr result (λ talk. (commands : List Spec.Command) (checks : List Check) → Gathers L.dialogue self.old commands checks
+            → AreCommands commands → Breaks talk commands (L.dialogue self.new.link) checks) }
         ensures grows { Grows (L.dialogue self.old.link) (L.dialogue self.new.link) }
         ensures cause { HasCause Talk.Pipe (L.faults self.old.link) (L.faults self.new.link) result }
-        ensures steady { IsSteady L.steady L.faults self.old.link → (commands : List Spec.Command) (checks : List Check) → Gathers L.dialogue self.old commands checks → AreCommands commands → IsSteady L.steady L.faults self.new.link }
+        ensures steady { IsSteady L.steady L.faults self.old.link → (commands : List Spec.Command) (checks : List Check)
+            → Gathers L.dialogue self.old commands checks → AreCommands commands → IsSteady L.steady L.faults self.new.link }
         ensures open { result ≡ Err Talk.Closed → ⊥ }
     {
         send_all(alloc, &mut self.link, &self.batch)?;
@@ -94,10 +96,12 @@ impl<L: Link> Dialogue<L> {
         ensures count { OnOk result (self.new.count < 256) }
         ensures room { OnOk result ((self.new.count ≡ 0) ⊎ (length self.new.batch.items + more ≤ 16384)) }
         ensures same { (self.new.levels ≡ self.old.levels) × (self.new.owed ≡ self.old.owed) × (self.new.failed ≡ self.old.failed) }
-        ensures fault { IfErr result (λ talk. (commands : List Spec.Command) (checks : List Check) → Gathers L.dialogue self.old commands checks → AreCommands commands → Breaks talk commands (L.dialogue self.new.link) checks) }
+        ensures fault { IfErr result (λ talk. (commands : List Spec.Command) (checks : List Check) → Gathers L.dialogue self.old commands checks
+            → AreCommands commands → Breaks talk commands (L.dialogue self.new.link) checks) }
         ensures grows { Grows (L.dialogue self.old.link) (L.dialogue self.new.link) }
         ensures cause { HasCause Talk.Pipe (L.faults self.old.link) (L.faults self.new.link) result }
-        ensures steady { IsSteady L.steady L.faults self.old.link → (commands : List Spec.Command) (checks : List Check) → Gathers L.dialogue self.old commands checks → AreCommands commands → IsSteady L.steady L.faults self.new.link }
+        ensures steady { IsSteady L.steady L.faults self.old.link → (commands : List Spec.Command) (checks : List Check)
+            → Gathers L.dialogue self.old commands checks → AreCommands commands → IsSteady L.steady L.faults self.new.link }
         ensures open { result ≡ Err Talk.Closed → ⊥ }
     {
         if self.is_full(more) {
@@ -112,10 +116,12 @@ impl<L: Link> Dialogue<L> {
         ensures told { OnOk result (is_plain (command c.now) ≡ true → (commands : List Spec.Command) (checks : List Check)
             → Gathers L.dialogue self.old commands checks → Gathers L.dialogue self.new (commands ++ command c.now ∷ []) checks) }
         ensures same { (self.new.levels ≡ self.old.levels) × (self.new.owed ≡ self.old.owed) × (self.new.failed ≡ self.old.failed) }
-        ensures fault { IfErr result (λ talk. (commands : List Spec.Command) (checks : List Check) → Gathers L.dialogue self.old commands checks → AreCommands commands → Breaks talk commands (L.dialogue self.new.link) checks) }
+        ensures fault { IfErr result (λ talk. (commands : List Spec.Command) (checks : List Check) → Gathers L.dialogue self.old commands checks
+            → AreCommands commands → Breaks talk commands (L.dialogue self.new.link) checks) }
         ensures grows { Grows (L.dialogue self.old.link) (L.dialogue self.new.link) }
         ensures cause { HasCause Talk.Pipe (L.faults self.old.link) (L.faults self.new.link) result }
-        ensures steady { IsSteady L.steady L.faults self.old.link → (commands : List Spec.Command) (checks : List Check) → Gathers L.dialogue self.old commands checks → AreCommands commands → IsSteady L.steady L.faults self.new.link }
+        ensures steady { IsSteady L.steady L.faults self.old.link → (commands : List Spec.Command) (checks : List Check)
+            → Gathers L.dialogue self.old commands checks → AreCommands commands → IsSteady L.steady L.faults self.new.link }
         ensures open { result ≡ Err Talk.Closed → ⊥ }
     {
         let mut text = Vec::new(alloc);
@@ -130,10 +136,13 @@ impl<L: Link> Dialogue<L> {
         ensures told { OnOk result (ArePlain (map command all.now) → (commands : List Spec.Command) (checks : List Check)
             → Gathers L.dialogue self.old commands checks → Gathers L.dialogue self.new (commands ++ map command all.now) checks) }
         ensures same { (self.new.levels ≡ self.old.levels) × (self.new.owed ≡ self.old.owed) × (self.new.failed ≡ self.old.failed) }
-        ensures fault { IfErr result (λ talk. ArePlain (map command all.now) → (commands : List Spec.Command) (checks : List Check) → Gathers L.dialogue self.old commands checks → AreCommands (commands ++ map command all.now) → Breaks talk (commands ++ map command all.now) (L.dialogue self.new.link) checks) }
+        ensures fault { IfErr result (λ talk. ArePlain (map command all.now) → (commands : List Spec.Command) (checks : List Check)
+            → Gathers L.dialogue self.old commands checks → AreCommands (commands ++ map command all.now)
+            → Breaks talk (commands ++ map command all.now) (L.dialogue self.new.link) checks) }
         ensures grows { Grows (L.dialogue self.old.link) (L.dialogue self.new.link) }
         ensures cause { HasCause Talk.Pipe (L.faults self.old.link) (L.faults self.new.link) result }
-        ensures steady { ArePlain (map command all.now) → IsSteady L.steady L.faults self.old.link → (commands : List Spec.Command) (checks : List Check) → Gathers L.dialogue self.old commands checks → AreCommands (commands ++ map command all.now) → IsSteady L.steady L.faults self.new.link }
+        ensures steady { ArePlain (map command all.now) → IsSteady L.steady L.faults self.old.link → (commands : List Spec.Command) (checks : List Check)
+            → Gathers L.dialogue self.old commands checks → AreCommands (commands ++ map command all.now) → IsSteady L.steady L.faults self.new.link }
         ensures open { result ≡ Err Talk.Closed → ⊥ }
     {
         for c in all {
@@ -147,10 +156,14 @@ impl<L: Link> Dialogue<L> {
             → Gathers L.dialogue self.old commands checks → Gathers L.dialogue self.new (commands ++ preamble certify (map declared_symbol functions.now)) checks) }
         ensures count { OnOk result (self.new.count ≡ 0) }
         ensures same { (self.new.levels ≡ self.old.levels) × (self.new.owed ≡ self.old.owed) × (self.new.failed ≡ self.old.failed) }
-        ensures fault { IfErr result (λ talk. (commands : List Spec.Command) (checks : List Check) → Gathers L.dialogue self.old commands checks → AreCommands (commands ++ preamble certify (map declared_symbol functions.now)) → Breaks talk (commands ++ preamble certify (map declared_symbol functions.now)) (L.dialogue self.new.link) checks) }
+        ensures fault { IfErr result (λ talk. (commands : List Spec.Command) (checks : List Check) → Gathers L.dialogue self.old commands checks
+            → AreCommands (commands ++ preamble certify (map declared_symbol functions.now))
+            → Breaks talk (commands ++ preamble certify (map declared_symbol functions.now)) (L.dialogue self.new.link) checks) }
         ensures grows { Grows (L.dialogue self.old.link) (L.dialogue self.new.link) }
         ensures cause { HasCause Talk.Pipe (L.faults self.old.link) (L.faults self.new.link) result }
-        ensures steady { IsSteady L.steady L.faults self.old.link → (commands : List Spec.Command) (checks : List Check) → Gathers L.dialogue self.old commands checks → AreCommands (commands ++ preamble certify (map declared_symbol functions.now)) → IsSteady L.steady L.faults self.new.link }
+        ensures steady { IsSteady L.steady L.faults self.old.link → (commands : List Spec.Command) (checks : List Check)
+            → Gathers L.dialogue self.old commands checks → AreCommands (commands ++ preamble certify (map declared_symbol functions.now))
+            → IsSteady L.steady L.faults self.new.link }
         ensures open { result ≡ Err Talk.Closed → ⊥ }
     {
         let mut commands = front_commands(alloc, certify)?;
@@ -173,9 +186,11 @@ impl<L: Link> Dialogue<L> {
         requires { L.dialogue link ≡ [] }
         ensures stands { IfOk result (λ d. Stands L.dialogue certify (map declared_symbol functions.now) [] d []) }
         ensures free { IfOk result (λ d. IsFree d × (has_failed d ≡ false) × (scope_of d ≡ Said.Outside)) }
-        ensures fault { IfErr result (λ e. AreCommands (preamble certify (map declared_symbol functions.now)) → Breaks e.1 (preamble certify (map declared_symbol functions.now)) (L.dialogue e.0) []) }
+        ensures fault { IfErr result (λ e. AreCommands (preamble certify (map declared_symbol functions.now))
+            → Breaks e.1 (preamble certify (map declared_symbol functions.now)) (L.dialogue e.0) []) }
         ensures cause { MatchResult result (λ d. L.faults link ≤ L.faults (link_of d)) (λ e. HasCause Talk.Pipe (L.faults link) (L.faults e.0) (gives e.1)) }
-        ensures steady { IsSteady L.steady L.faults link → AreCommands (preamble certify (map declared_symbol functions.now)) → MatchResult result (λ d. IsSteady L.steady L.faults (link_of d)) (λ e. IsSteady L.steady L.faults e.0) }
+        ensures steady { IsSteady L.steady L.faults link → AreCommands (preamble certify (map declared_symbol functions.now))
+            → MatchResult result (λ d. IsSteady L.steady L.faults (link_of d)) (λ e. IsSteady L.steady L.faults e.0) }
         ensures open { MatchResult result (λ _. Unit {0}) (λ e. e.1 ≡ Talk.Closed → ⊥) }
     {
         let mut dialogue = Dialogue {
@@ -199,10 +214,12 @@ impl<L: Link> Dialogue<L> {
             → Gathers L.dialogue self.old commands checks → Waits L.dialogue self.new (commands ++ Spec.CheckSat ∷ []) checks) }
         ensures asked { OnOk result (IsSome self.new.owed × (self.new.count ≡ 0)) }
         ensures same { (self.new.levels ≡ self.old.levels) × (self.new.failed ≡ self.old.failed) }
-        ensures fault { IfErr result (λ talk. (commands : List Spec.Command) (checks : List Check) → Gathers L.dialogue self.old commands checks → AreCommands commands → Breaks talk (commands ++ Spec.CheckSat ∷ []) (L.dialogue self.new.link) checks) }
+        ensures fault { IfErr result (λ talk. (commands : List Spec.Command) (checks : List Check) → Gathers L.dialogue self.old commands checks
+            → AreCommands commands → Breaks talk (commands ++ Spec.CheckSat ∷ []) (L.dialogue self.new.link) checks) }
         ensures grows { Grows (L.dialogue self.old.link) (L.dialogue self.new.link) }
         ensures cause { HasCause Talk.Pipe (L.faults self.old.link) (L.faults self.new.link) result }
-        ensures steady { IsSteady L.steady L.faults self.old.link → (commands : List Spec.Command) (checks : List Check) → Gathers L.dialogue self.old commands checks → AreCommands commands → IsSteady L.steady L.faults self.new.link }
+        ensures steady { IsSteady L.steady L.faults self.old.link → (commands : List Spec.Command) (checks : List Check)
+            → Gathers L.dialogue self.old commands checks → AreCommands commands → IsSteady L.steady L.faults self.new.link }
         ensures open { result ≡ Err Talk.Closed → ⊥ }
     {
         self.make_room(alloc, CHECK)?;
@@ -223,17 +240,20 @@ impl<L: Link> Dialogue<L> {
     ) -> Result<(), Talk>
         requires { IsReady self.old.levels }
         ensures told { OnOk result ((commands : List Spec.Command) (checks : List Check) → Gathers L.dialogue self.old commands checks
-            → Waits L.dialogue self.new ((commands ++ question (scope_of self.old) (path_behind base (scope_of self.old) (map entry path.now)) (shared condition.now)) ++ Spec.CheckSat ∷ []) checks) }
+            → Waits L.dialogue self.new ((commands ++ question (scope_of self.old) (path_behind base (scope_of self.old) (map entry path.now))
+            (shared condition.now)) ++ Spec.CheckSat ∷ []) checks) }
         ensures asked { OnOk result (IsSome self.new.owed × (self.new.count ≡ 0) × IsReady self.new.levels) }
         ensures scope { OnOk result (scope_of self.new ≡ Said.Inside (path_behind base (scope_of self.old) (map entry path.now))) }
         ensures failed { self.new.failed ≡ self.old.failed }
         ensures fault { IfErr result (λ talk. (commands : List Spec.Command) (checks : List Check) → Gathers L.dialogue self.old commands checks
             → AreCommands (commands ++ question (scope_of self.old) (path_behind base (scope_of self.old) (map entry path.now)) (shared condition.now))
-            → Breaks talk ((commands ++ question (scope_of self.old) (path_behind base (scope_of self.old) (map entry path.now)) (shared condition.now)) ++ Spec.CheckSat ∷ []) (L.dialogue self.new.link) checks) }
+            → Breaks talk ((commands ++ question (scope_of self.old) (path_behind base (scope_of self.old) (map entry path.now)) (shared condition.now))
+            ++ Spec.CheckSat ∷ []) (L.dialogue self.new.link) checks) }
         ensures grows { Grows (L.dialogue self.old.link) (L.dialogue self.new.link) }
         ensures cause { HasCause Talk.Pipe (L.faults self.old.link) (L.faults self.new.link) result }
         ensures steady { IsSteady L.steady L.faults self.old.link → (commands : List Spec.Command) (checks : List Check) → Gathers L.dialogue self.old commands checks
-            → AreCommands (commands ++ question (scope_of self.old) (path_behind base (scope_of self.old) (map entry path.now)) (shared condition.now)) → IsSteady L.steady L.faults self.new.link }
+            → AreCommands (commands ++ question (scope_of self.old) (path_behind base (scope_of self.old) (map entry path.now)) (shared condition.now))
+            → IsSteady L.steady L.faults self.new.link }
         ensures open { result ≡ Err Talk.Closed → ⊥ }
     {
         let commands = self.levels.question(alloc, base, path, condition)?;
@@ -255,17 +275,23 @@ impl<L: Link> Dialogue<L> {
         condition: &Rc<Term>,
     ) -> Result<(), Talk>
         requires { IsFree self.old }
-        ensures asks { OnOk result ((certify : Bool) (functions : List Spec.Declared) (turns : List ScopedTurn) (checks : List Check) → Stands L.dialogue certify functions turns self.old checks
+        ensures asks { OnOk result ((certify : Bool) (functions : List Spec.Declared) (turns : List ScopedTurn) (checks : List Check)
+            → Stands L.dialogue certify functions turns self.old checks
             → Awaits L.dialogue certify functions turns (path_behind base (scope_of self.old) (map entry path.now)) (shared condition.now) self.new checks) }
         ensures asked { IsAsked self.new }
         ensures scope { OnOk result (scope_of self.new ≡ Said.Inside (path_behind base (scope_of self.old) (map entry path.now))) }
-        ensures fault { IfErr result (λ talk. (certify : Bool) (functions : List Spec.Declared) (turns : List ScopedTurn) (checks : List Check) → Stands L.dialogue certify functions turns self.old checks
+        ensures fault { IfErr result (λ talk. (certify : Bool) (functions : List Spec.Declared) (turns : List ScopedTurn) (checks : List Check)
+            → Stands L.dialogue certify functions turns self.old checks
             → AreCommands (script certify functions (turns ++ Said.Posts (path_behind base (scope_of self.old) (map entry path.now)) (shared condition.now) ∷ []))
-            → Breaks talk (script certify functions (turns ++ Said.Posts (path_behind base (scope_of self.old) (map entry path.now)) (shared condition.now) ∷ [])) (L.dialogue (link_of self.new)) checks) }
+            → Breaks talk (script certify functions (turns ++ Said.Posts (path_behind base (scope_of self.old) (map entry path.now)) (shared condition.now)
+            ∷ [])) (L.dialogue (link_of self.new)) checks) }
         ensures grows { Grows (L.dialogue (link_of self.old)) (L.dialogue (link_of self.new)) }
         ensures cause { HasCause Talk.Pipe (L.faults (link_of self.old)) (L.faults (link_of self.new)) result }
-        ensures steady { IsSteady L.steady L.faults (link_of self.old) → (certify : Bool) (functions : List Spec.Declared) (turns : List ScopedTurn) (checks : List Check) → Stands L.dialogue certify functions turns self.old checks
-            → AreCommands (script certify functions (turns ++ Said.Posts (path_behind base (scope_of self.old) (map entry path.now)) (shared condition.now) ∷ [])) → IsSteady L.steady L.faults (link_of self.new) }
+        ensures steady { IsSteady L.steady L.faults (link_of self.old)
+            → (certify : Bool) (functions : List Spec.Declared) (turns : List ScopedTurn) (checks : List Check)
+            → Stands L.dialogue certify functions turns self.old checks
+            → AreCommands (script certify functions (turns ++ Said.Posts (path_behind base (scope_of self.old) (map entry path.now)) (shared condition.now)
+            ∷ [])) → IsSteady L.steady L.faults (link_of self.new) }
         ensures closed { (result ≡ Err Talk.Closed) ↔ (has_failed self.old ≡ true) }
         ensures failed { has_failed self.new ≡ is_err result }
     {
@@ -287,10 +313,12 @@ impl<L: Link> Dialogue<L> {
             → Gathers L.dialogue self.new commands (checks ++ told_check (stack_of commands) reply ∷ [])) }
         ensures free { OnOk result (self.new.owed ≡ None) }
         ensures same { (self.new.levels ≡ self.old.levels) × (self.new.count ≡ self.old.count) × (self.new.failed ≡ self.old.failed) }
-        ensures fault { IfErr result (λ talk. self.old.owed ≡ Some owed → (commands : List Spec.Command) (checks : List Check) → Waits L.dialogue self.old commands checks → AreCommands commands → Breaks talk commands (L.dialogue self.new.link) checks) }
+        ensures fault { IfErr result (λ talk. self.old.owed ≡ Some owed → (commands : List Spec.Command) (checks : List Check)
+            → Waits L.dialogue self.old commands checks → AreCommands commands → Breaks talk commands (L.dialogue self.new.link) checks) }
         ensures grows { Grows (L.dialogue self.old.link) (L.dialogue self.new.link) }
         ensures cause { HasCause Talk.Pipe (L.faults self.old.link) (L.faults self.new.link) result }
-        ensures steady { IsSteady L.steady L.faults self.old.link → self.old.owed ≡ Some owed → (commands : List Spec.Command) (checks : List Check) → Waits L.dialogue self.old commands checks → AreCommands commands → IsSteady L.steady L.faults self.new.link }
+        ensures steady { IsSteady L.steady L.faults self.old.link → self.old.owed ≡ Some owed → (commands : List Spec.Command) (checks : List Check)
+            → Waits L.dialogue self.old commands checks → AreCommands commands → IsSteady L.steady L.faults self.new.link }
         ensures open { result ≡ Err Talk.Closed → ⊥ }
     {
         expect_successes(alloc, &mut self.link, &mut self.unread, owed)?;
@@ -309,17 +337,25 @@ impl<L: Link> Dialogue<L> {
     /// memory runs out, and `Closed` where an earlier call failed.
     pub fn take(&mut self, alloc: Global) -> Result<Reply, Talk>
         requires { IsAsked self.old }
-        ensures reply { IfOk result (λ reply. (certify : Bool) (functions : List Spec.Declared) (turns : List ScopedTurn) (path : List segments.Entry) (condition : Written.Term) (checks : List Check)
+        ensures reply { IfOk result (λ reply. (certify : Bool) (functions : List Spec.Declared) (turns : List ScopedTurn) (path : List segments.Entry)
+            (condition : Written.Term) (checks : List Check)
             → Awaits L.dialogue certify functions turns path condition self.old checks
-            → Stands L.dialogue certify functions (turns ++ Said.Asks path condition ∷ []) self.new (checks ++ check_of (base_of certify functions) (segments.terms path) condition reply ∷ [])) }
+            → Stands L.dialogue certify functions (turns ++ Said.Asks path condition ∷ []) self.new
+            (checks ++ check_of (base_of certify functions) (segments.terms path) condition reply ∷ [])) }
         ensures free { IsFree self.new }
         ensures scope { OnOk result (scope_of self.new ≡ scope_of self.old) }
-        ensures fault { IfErr result (λ talk. (certify : Bool) (functions : List Spec.Declared) (turns : List ScopedTurn) (path : List segments.Entry) (condition : Written.Term) (checks : List Check)
-            → Awaits L.dialogue certify functions turns path condition self.old checks → AreCommands (script certify functions (turns ++ Said.Posts path condition ∷ [])) → Breaks talk (script certify functions (turns ++ Said.Posts path condition ∷ [])) (L.dialogue (link_of self.new)) checks) }
+        ensures fault { IfErr result (λ talk. (certify : Bool) (functions : List Spec.Declared) (turns : List ScopedTurn) (path : List segments.Entry)
+            (condition : Written.Term) (checks : List Check)
+            → Awaits L.dialogue certify functions turns path condition self.old checks
+            → AreCommands (script certify functions (turns ++ Said.Posts path condition ∷ []))
+            → Breaks talk (script certify functions (turns ++ Said.Posts path condition ∷ [])) (L.dialogue (link_of self.new)) checks) }
         ensures grows { Grows (L.dialogue (link_of self.old)) (L.dialogue (link_of self.new)) }
         ensures cause { HasCause Talk.Pipe (L.faults (link_of self.old)) (L.faults (link_of self.new)) result }
-        ensures steady { IsSteady L.steady L.faults (link_of self.old) → (certify : Bool) (functions : List Spec.Declared) (turns : List ScopedTurn) (path : List segments.Entry) (condition : Written.Term) (checks : List Check)
-            → Awaits L.dialogue certify functions turns path condition self.old checks → AreCommands (script certify functions (turns ++ Said.Posts path condition ∷ [])) → IsSteady L.steady L.faults (link_of self.new) }
+        ensures steady { IsSteady L.steady L.faults (link_of self.old)
+            → (certify : Bool) (functions : List Spec.Declared) (turns : List ScopedTurn) (path : List segments.Entry) (condition : Written.Term)
+            (checks : List Check)
+            → Awaits L.dialogue certify functions turns path condition self.old checks
+            → AreCommands (script certify functions (turns ++ Said.Posts path condition ∷ [])) → IsSteady L.steady L.faults (link_of self.new) }
         ensures closed { (result ≡ Err Talk.Closed) ↔ (has_failed self.old ≡ true) }
         ensures failed { has_failed self.new ≡ is_err result }
     {
@@ -349,18 +385,24 @@ impl<L: Link> Dialogue<L> {
         condition: &Rc<Term>,
     ) -> Result<Reply, Talk>
         requires { IsFree self.old }
-        ensures reply { IfOk result (λ reply. (certify : Bool) (functions : List Spec.Declared) (turns : List ScopedTurn) (checks : List Check) → Stands L.dialogue certify functions turns self.old checks
+        ensures reply { IfOk result (λ reply. (certify : Bool) (functions : List Spec.Declared) (turns : List ScopedTurn) (checks : List Check)
+            → Stands L.dialogue certify functions turns self.old checks
             → Stands L.dialogue certify functions (turns ++ Said.Asks (path_behind base (scope_of self.old) (map entry path.now)) (shared condition.now) ∷ []) self.new
             (checks ++ check_of (base_of certify functions) (segments.terms (path_behind base (scope_of self.old) (map entry path.now))) (shared condition.now) reply ∷ [])) }
         ensures free { IsFree self.new }
         ensures scope { OnOk result (scope_of self.new ≡ Said.Inside (path_behind base (scope_of self.old) (map entry path.now))) }
-        ensures fault { IfErr result (λ talk. (certify : Bool) (functions : List Spec.Declared) (turns : List ScopedTurn) (checks : List Check) → Stands L.dialogue certify functions turns self.old checks
+        ensures fault { IfErr result (λ talk. (certify : Bool) (functions : List Spec.Declared) (turns : List ScopedTurn) (checks : List Check)
+            → Stands L.dialogue certify functions turns self.old checks
             → AreCommands (script certify functions (turns ++ Said.Posts (path_behind base (scope_of self.old) (map entry path.now)) (shared condition.now) ∷ []))
-            → Breaks talk (script certify functions (turns ++ Said.Posts (path_behind base (scope_of self.old) (map entry path.now)) (shared condition.now) ∷ [])) (L.dialogue (link_of self.new)) checks) }
+            → Breaks talk (script certify functions (turns ++ Said.Posts (path_behind base (scope_of self.old) (map entry path.now)) (shared condition.now)
+            ∷ [])) (L.dialogue (link_of self.new)) checks) }
         ensures grows { Grows (L.dialogue (link_of self.old)) (L.dialogue (link_of self.new)) }
         ensures cause { HasCause Talk.Pipe (L.faults (link_of self.old)) (L.faults (link_of self.new)) result }
-        ensures steady { IsSteady L.steady L.faults (link_of self.old) → (certify : Bool) (functions : List Spec.Declared) (turns : List ScopedTurn) (checks : List Check) → Stands L.dialogue certify functions turns self.old checks
-            → AreCommands (script certify functions (turns ++ Said.Posts (path_behind base (scope_of self.old) (map entry path.now)) (shared condition.now) ∷ [])) → IsSteady L.steady L.faults (link_of self.new) }
+        ensures steady { IsSteady L.steady L.faults (link_of self.old)
+            → (certify : Bool) (functions : List Spec.Declared) (turns : List ScopedTurn) (checks : List Check)
+            → Stands L.dialogue certify functions turns self.old checks
+            → AreCommands (script certify functions (turns ++ Said.Posts (path_behind base (scope_of self.old) (map entry path.now)) (shared condition.now)
+            ∷ [])) → IsSteady L.steady L.faults (link_of self.new) }
         ensures closed { (result ≡ Err Talk.Closed) ↔ (has_failed self.old ≡ true) }
         ensures failed { has_failed self.new ≡ is_err result }
     {
@@ -382,7 +424,8 @@ impl<L: Link> Dialogue<L> {
     /// `Closed` where an earlier call failed, and only then.
     pub fn leave(&mut self) -> Result<(), Talk>
         requires { IsFree self.old }
-        ensures stands { OnOk result ((certify : Bool) (functions : List Spec.Declared) (turns : List ScopedTurn) (checks : List Check) → Stands L.dialogue certify functions turns self.old checks
+        ensures stands { OnOk result ((certify : Bool) (functions : List Spec.Declared) (turns : List ScopedTurn) (checks : List Check)
+            → Stands L.dialogue certify functions turns self.old checks
             → Stands L.dialogue certify functions (turns ++ Said.Leaves ∷ []) self.new checks) }
         ensures left { OnOk result (scope_of self.new ≡ Said.left (scope_of self.old)) }
         ensures free { IsFree self.new }

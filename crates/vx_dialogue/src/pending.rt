@@ -31,7 +31,8 @@ pub fn put_off_both<'t>(
     left: &'t Term,
     right: &'t Term,
 ) -> Result<(), AllocError>
-    ensures adds { OnOk result ((ds : List Declared) → with_pending ds pending.new.items ≡ with_pending (with_variables (with_variables ds (term left.now)) (term right.now)) pending.old.items) }
+    ensures adds { OnOk result ((ds : List Declared) → with_pending ds pending.new.items
+        ≡ with_pending (with_variables (with_variables ds (term left.now)) (term right.now)) pending.old.items) }
     ensures load { OnOk result (load pending.new.items ≡ (parts (term left.now) + parts (term right.now)) + load pending.old.items) }
 {
     put_off(pending, Pending::Term(right))?;

@@ -72,7 +72,8 @@ impl Levels {
         path: &[Entry],
     ) -> Result<(), AllocError>
         requires { IsReady self.old }
-        ensures said { OnOk result (map command commands.new.items ≡ map command commands.old.items ++ said_before (scope self.old) (path_behind base (scope self.old) (map entry path.now))) }
+        ensures said { OnOk result (map command commands.new.items
+            ≡ map command commands.old.items ++ said_before (scope self.old) (path_behind base (scope self.old) (map entry path.now))) }
         ensures path { OnOk result (path_of self.new.standing ≡ path_behind base (scope self.old) (map entry path.now)) }
         ensures sound { OnOk result (IsSound self.new.standing) }
     {

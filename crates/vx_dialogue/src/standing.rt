@@ -144,7 +144,9 @@ impl Standing {
         e: &Entry,
     ) -> Result<(), AllocError>
         requires { IsSound self.old }
-        ensures said { OnOk result (map command commands.new.items ≡ map command commands.old.items ++ ((opening (last_of 0 (path_of self.old)) (entry e.now) ++ declarations (missing self.old.declared (entry e.now).term)) ++ Spec.Assert (entry e.now).term ∷ [])) }
+        ensures said { OnOk result (map command commands.new.items
+            ≡ map command commands.old.items ++ ((opening (last_of 0 (path_of self.old)) (entry e.now)
+            ++ declarations (missing self.old.declared (entry e.now).term)) ++ Spec.Assert (entry e.now).term ∷ [])) }
         ensures path { OnOk result (path_of self.new ≡ path_of self.old ++ entry e.now ∷ []) }
         ensures sound { OnOk result (IsSound self.new) }
     {
@@ -168,7 +170,9 @@ impl Standing {
         entries: &[Entry],
     ) -> Result<(), AllocError>
         requires { IsSound self.old }
-        ensures said { OnOk result (map command commands.new.items ≡ map command commands.old.items ++ segments.sent (last_of 0 (path_of self.old)) (with_listed [] (terms (path_of self.old))) (map entry entries.now)) }
+        ensures said { OnOk result (map command commands.new.items
+            ≡ map command commands.old.items ++ segments.sent (last_of 0 (path_of self.old)) (with_listed [] (terms (path_of self.old)))
+            (map entry entries.now)) }
         ensures path { OnOk result (path_of self.new ≡ path_of self.old ++ map entry entries.now) }
         ensures sound { OnOk result (IsSound self.new) }
     {
@@ -242,7 +246,8 @@ impl Standing {
         path: &[Entry],
     ) -> Result<(), AllocError>
         requires { IsSound self.old }
-        ensures said { OnOk result (map command commands.new.items ≡ map command commands.old.items ++ onto (path_of self.old) (map entry path.now) (Stays.kept (path_of self.old) (map entry path.now))) }
+        ensures said { OnOk result (map command commands.new.items
+            ≡ map command commands.old.items ++ onto (path_of self.old) (map entry path.now) (Stays.kept (path_of self.old) (map entry path.now))) }
         ensures path { OnOk result (path_of self.new ≡ map entry path.now) }
         ensures sound { OnOk result (IsSound self.new) }
     {
@@ -260,7 +265,9 @@ impl Standing {
         entries: &[Entry],
     ) -> Result<(), AllocError>
         requires { IsSound self.old }
-        ensures said { OnOk result (map command commands.new.items ≡ map command commands.old.items ++ (Spec.Pop 1 ∷ segments.sent (last_of 0 (path_of self.old)) (with_listed [] (terms (path_of self.old))) (map entry entries.now))) }
+        ensures said { OnOk result (map command commands.new.items
+            ≡ map command commands.old.items ++ (Spec.Pop 1 ∷ segments.sent (last_of 0 (path_of self.old)) (with_listed [] (terms (path_of self.old)))
+            (map entry entries.now))) }
         ensures path { OnOk result (path_of self.new ≡ path_of self.old ++ map entry entries.now) }
         ensures sound { OnOk result (IsSound self.new) }
     {

@@ -26,7 +26,9 @@ pub fn step_all(
     state: SymState,
     conts: &mut Conts,
 ) -> Result<Move, AllocError>
-    ensures { IfOk result (λ m. Stepped (settled program.now) (rule.evals (settled program.now) (rules (settled program.now)) (exprs es.now) (state_of state) (giving_all (settled program.now) row.now.value)) conts.old.sides.items m conts.new.sides.items) }
+    ensures { IfOk result (λ m. Stepped (settled program.now)
+        (rule.evals (settled program.now) (rules (settled program.now)) (exprs es.now) (state_of state) (giving_all (settled program.now) row.now.value))
+        conts.old.sides.items m conts.new.sides.items) }
 {
     match es {
         Exprs::NoMore => {
@@ -50,7 +52,9 @@ pub fn step_argument(
     state: SymState,
     conts: &mut Conts,
 ) -> Result<Move, AllocError>
-    ensures { IfOk result (λ m. Stepped (settled program.now) (rule.evals (settled program.now) (rules (settled program.now)) (exprs es.now.value) (state_of state) (λ ts s. Step (giving_all (settled program.now) row.now.value (held_term value ∷ ts) s))) conts.old.sides.items m conts.new.sides.items) }
+    ensures { IfOk result (λ m. Stepped (settled program.now)
+        (rule.evals (settled program.now) (rules (settled program.now)) (exprs es.now.value) (state_of state)
+        (λ ts s. Step (giving_all (settled program.now) row.now.value (held_term value ∷ ts) s))) conts.old.sides.items m conts.new.sides.items) }
 {
     let row = Rc::new(alloc, Row::After(value, row.clone()?))?;
     step_all(alloc, program, es, &row, state, conts)

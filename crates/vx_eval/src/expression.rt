@@ -28,7 +28,9 @@ pub fn step(
     state: SymState,
     conts: &mut Conts,
 ) -> Result<Move, AllocError>
-    ensures { IfOk result (λ m. Stepped (settled program.now) (rule.eval (settled program.now) (rules (settled program.now)) (expr e.now) (state_of state) (giving (settled program.now) hole.value)) conts.old.sides.items m conts.new.sides.items) }
+    ensures { IfOk result (λ m. Stepped (settled program.now)
+        (rule.eval (settled program.now) (rules (settled program.now)) (expr e.now) (state_of state) (giving (settled program.now) hole.value))
+        conts.old.sides.items m conts.new.sides.items) }
 {
     match e {
         Expr::Number(_, n) => give_made(program, numeral(alloc, *n), &hole, state, conts),

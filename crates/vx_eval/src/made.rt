@@ -23,7 +23,9 @@ pub(crate) fn give_made(
     state: SymState,
     conts: &mut Conts,
 ) -> Result<Move, AllocError>
-    ensures { (t : written.Term) → IfOk made (λ v. held_term v ≡ t) → IfOk result (λ m. Stepped (settled program.now) (Step (giving (settled program.now) hole.now.value t (state_of state))) conts.old.sides.items m conts.new.sides.items) }
+    ensures { (t : written.Term) → IfOk made (λ v. held_term v ≡ t)
+        → IfOk result (λ m. Stepped (settled program.now) (Step (giving (settled program.now) hole.now.value t (state_of state))) conts.old.sides.items m
+        conts.new.sides.items) }
 {
     match made {
         Ok(value) => conts.give(program, value, hole, state),

@@ -40,7 +40,9 @@ pub fn step_operand(
     conts: &mut Conts,
 ) -> Result<Move, AllocError>
     requires { is_plain operand.now ≡ true }
-    ensures { IfOk result (λ m. Stepped (settled program.now) (operand_of (settled program.now) operand.now (giving (settled program.now) hole.now.value) (held_term value) (state_of state)) conts.old.sides.items m conts.new.sides.items) }
+    ensures { IfOk result (λ m. Stepped (settled program.now)
+        (operand_of (settled program.now) operand.now (giving (settled program.now) hole.now.value) (held_term value) (state_of state)) conts.old.sides.items m
+        conts.new.sides.items) }
 {
     match operand {
         Operand::Negate => give_made(program, make::not(alloc, &value), hole, state, conts),
@@ -105,7 +107,9 @@ fn step_part(
     state: SymState,
     conts: &mut Conts,
 ) -> Result<Move, AllocError>
-    ensures { IfOk result (λ m. Stepped (settled program.now) (Step (rule.eval (settled program.now) (rules (settled program.now)) (expr e.now.value) (state_of state) (operand_of (settled program.now) operand (giving (settled program.now) hole.now.value)))) conts.old.sides.items m conts.new.sides.items) }
+    ensures { IfOk result (λ m. Stepped (settled program.now)
+        (Step (rule.eval (settled program.now) (rules (settled program.now)) (expr e.now.value) (state_of state)
+        (operand_of (settled program.now) operand (giving (settled program.now) hole.now.value)))) conts.old.sides.items m conts.new.sides.items) }
 {
     let hole = Hole::Operand(operand, hole.clone()?);
     conts.eval(alloc, program, e, hole, state)
@@ -122,7 +126,9 @@ fn step_sides(
     state: SymState,
     conts: &mut Conts,
 ) -> Result<Move, AllocError>
-    ensures { IfOk result (λ m. Stepped (settled program.now) (operand_of (settled program.now) (waits.ChooseSides a.now b.now) (giving (settled program.now) hole.now.value) (held_term value) (state_of state)) conts.old.sides.items m conts.new.sides.items) }
+    ensures { IfOk result (λ m. Stepped (settled program.now)
+        (operand_of (settled program.now) (waits.ChooseSides a.now b.now) (giving (settled program.now) hole.now.value) (held_term value) (state_of state))
+        conts.old.sides.items m conts.new.sides.items) }
 {
     let left = evaluation(a, hole)?;
     let right = evaluation(b, hole)?;
@@ -138,7 +144,9 @@ fn step_restored(
     state: SymState,
     conts: &mut Conts,
 ) -> Result<Move, AllocError>
-    ensures { IfOk result (λ m. Stepped (settled program.now) (operand_of (settled program.now) (waits.Restore heap.now) (giving (settled program.now) hole.now.value) (held_term value) (state_of state)) conts.old.sides.items m conts.new.sides.items) }
+    ensures { IfOk result (λ m. Stepped (settled program.now)
+        (operand_of (settled program.now) (waits.Restore heap.now) (giving (settled program.now) hole.now.value) (held_term value) (state_of state))
+        conts.old.sides.items m conts.new.sides.items) }
 {
     let mut state = state;
     let _inside = state.exchange_heap(heap.clone()?);
@@ -159,7 +167,9 @@ fn step_unfolding(
     state: SymState,
     conts: &mut Conts,
 ) -> Result<Move, AllocError>
-    ensures { IfOk result (λ m. Stepped (settled program.now) (operand_of (settled program.now) (waits.Unfolding at i.now es.now e.now heap.now) (giving (settled program.now) hole.now.value) (held_term amount.now) (state_of state)) conts.old.sides.items m conts.new.sides.items) }
+    ensures { IfOk result (λ m. Stepped (settled program.now)
+        (operand_of (settled program.now) (waits.Unfolding at i.now es.now e.now heap.now) (giving (settled program.now) hole.now.value) (held_term amount.now)
+        (state_of state)) conts.old.sides.items m conts.new.sides.items) }
 {
     let inside = restored(alloc, e, heap, hole)?;
     let row = Row::Unfolding(at, i.clone()?, amount.clone()?, inside);
@@ -173,7 +183,8 @@ fn restored(
     heap: &Rc<SymHeap>,
     hole: &Rc<Hole>,
 ) -> Result<Rc<Next>, AllocError>
-    ensures { IfOk result (λ next. (p : Program) → ◌≡◌ {A = rule.Going} (going p next.value) (λ s. rule.eval p (rules p) (expr e.now.value) s (λ t s1. Step (giving p hole.now.value t (states.with_heap (heap_of heap.now.value) s1))))) }
+    ensures { IfOk result (λ next. (p : Program) → ◌≡◌ {A = rule.Going} (going p next.value)
+        (λ s. rule.eval p (rules p) (expr e.now.value) s (λ t s1. Step (giving p hole.now.value t (states.with_heap (heap_of heap.now.value) s1))))) }
 {
     let restore = Hole::Operand(Operand::Restore(heap.clone()?), hole.clone()?);
     let behind = Rc::new(alloc, restore)?;
@@ -192,7 +203,10 @@ fn step_share(
     state: SymState,
     conts: &mut Conts,
 ) -> Result<Move, AllocError>
-    ensures { IfOk result (λ m. Stepped (settled program.now) (rule.ask (less zero_amount (held_term amount.now)) (rule.placed (state_of state) at) AmountCode (state_of state) (λ s. rule.evals (settled program.now) (rules (settled program.now)) (exprs es.now.value) s (giving_all (settled program.now) row))) conts.old.sides.items m conts.new.sides.items) }
+    ensures { IfOk result (λ m. Stepped (settled program.now)
+        (rule.ask (less zero_amount (held_term amount.now)) (rule.placed (state_of state) at) AmountCode (state_of state)
+        (λ s. rule.evals (settled program.now) (rules (settled program.now)) (exprs es.now.value) s (giving_all (settled program.now) row)))
+        conts.old.sides.items m conts.new.sides.items) }
 {
     let condition = positive(alloc, amount)?;
     let place = state.placed(at);
@@ -214,7 +228,10 @@ fn step_divided(
     state: SymState,
     conts: &mut Conts,
 ) -> Result<Move, AllocError>
-    ensures { IfOk result (λ m. Stepped (settled program.now) (with_divisor at (state_of state) (held_term divisor.now) (giving (settled program.now) hole.now.value (rule.divided (division op) (held_term first.now) (held_term divisor.now)))) conts.old.sides.items m conts.new.sides.items) }
+    ensures { IfOk result (λ m. Stepped (settled program.now)
+        (with_divisor at (state_of state) (held_term divisor.now)
+        (giving (settled program.now) hole.now.value (rule.divided (division op) (held_term first.now) (held_term divisor.now)))) conts.old.sides.items m
+        conts.new.sides.items) }
 {
     let is_zero = numbers::eq(alloc, divisor, &make::int(alloc, 0)?)?;
     let condition = make::not(alloc, &is_zero)?;
@@ -242,7 +259,9 @@ fn step_short(
     state: SymState,
     conts: &mut Conts,
 ) -> Result<Move, AllocError>
-    ensures { IfOk result (λ m. Stepped (settled program.now) (rule.short (connective op) (held_term value) (state_of state) (λ s. rule.eval (settled program.now) (rules (settled program.now)) (expr right.now.value) s (giving (settled program.now) hole.now.value)) (giving (settled program.now) hole.now.value)) conts.old.sides.items m conts.new.sides.items) }
+    ensures { IfOk result (λ m. Stepped (settled program.now) (rule.short (connective op) (held_term value) (state_of state)
+        (λ s. rule.eval (settled program.now) (rules (settled program.now)) (expr right.now.value) s (giving (settled program.now) hole.now.value))
+        (giving (settled program.now) hole.now.value)) conts.old.sides.items m conts.new.sides.items) }
 {
     let more = evaluation(right, hole)?;
     match op {

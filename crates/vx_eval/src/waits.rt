@@ -26,7 +26,9 @@ fn are_total(a: &Expr, b: &Expr) -> bool
 
 /// The left part of a connective, before its right part: where that can fail, it is looked at on one side alone.
 pub(crate) fn before_right(op: Connective, b: &Rc<Expr>) -> Result<Operand, AllocError>
-    ensures { (p : Program) (on : rule.Giving) → IfOk result (λ o. ◌≡◌ {A = rule.Giving} (operand_of p o on) (if rule.is_total (expr b.now.value) then operand_of p (waits.ConnectRight op b.now) on else operand_of p (waits.ConnectSides op b.now) on)) }
+    ensures { (p : Program) (on : rule.Giving) → IfOk result
+        (λ o. ◌≡◌ {A = rule.Giving} (operand_of p o on) (if rule.is_total (expr b.now.value) then operand_of p
+        (waits.ConnectRight op b.now) on else operand_of p (waits.ConnectSides op b.now) on)) }
 {
     if is_total(b) {
         return Ok(Operand::ConnectRight(op, b.clone()?));
@@ -36,7 +38,9 @@ pub(crate) fn before_right(op: Connective, b: &Rc<Expr>) -> Result<Operand, Allo
 
 /// A condition, before its branches: where one can fail, each is on a side of its own.
 pub(crate) fn before_branches(a: &Rc<Expr>, b: &Rc<Expr>) -> Result<Operand, AllocError>
-    ensures { (p : Program) (on : rule.Giving) → IfOk result (λ o. ◌≡◌ {A = rule.Giving} (operand_of p o on) (if rule.is_total (expr a.now.value) && rule.is_total (expr b.now.value) then operand_of p (waits.ChooseThen a.now b.now) on else operand_of p (waits.ChooseSides a.now b.now) on)) }
+    ensures { (p : Program) (on : rule.Giving) → IfOk result
+        (λ o. ◌≡◌ {A = rule.Giving} (operand_of p o on) (if rule.is_total (expr a.now.value) && rule.is_total (expr b.now.value) then operand_of p
+        (waits.ChooseThen a.now b.now) on else operand_of p (waits.ChooseSides a.now b.now) on)) }
 {
     if are_total(a, b) {
         return Ok(Operand::ChooseThen(a.clone()?, b.clone()?));

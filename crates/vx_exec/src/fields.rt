@@ -52,7 +52,12 @@ fn put_field(
     reference: &Rc<Term>,
     state: &mut SymState,
 ) -> Result<(), AllocError>
-    ensures { IfOk result (λ _. state_of state.new ≡ chunks.put (record (field_key (string_bytes field.now.value) (held_term reference.now)) { amount = whole_amount; value = states.fresh (field_sort_of (settled program.now) (string_bytes field.now.value)) (state_of state.old) }) (states.after_fresh (state_of state.old))) }
+    ensures { IfOk result (λ _. state_of state.new ≡ chunks.put
+        (record (field_key (string_bytes field.now.value) (held_term reference.now)) {
+          amount = whole_amount;
+          value = states.fresh
+              (field_sort_of (settled program.now) (string_bytes field.now.value)) (state_of state.old);
+        }) (states.after_fresh (state_of state.old))) }
 {
     let value = state.new_symbol(alloc, field_sort(program, field))?;
     let chunk = whole_chunk(alloc, field, reference, value)?;
@@ -67,7 +72,8 @@ fn put_fields(
     reference: &Rc<Term>,
     state: &mut SymState,
 ) -> Result<(), AllocError>
-    ensures { IfOk result (λ _. state_of state.new ≡ rule.put_fields (settled program.now) (map (λ f. string_bytes f.value) fields.now) (held_term reference.now) (state_of state.old)) }
+    ensures { IfOk result (λ _. state_of state.new ≡ rule.put_fields (settled program.now) (map (λ f. string_bytes f.value) fields.now)
+        (held_term reference.now) (state_of state.old)) }
 {
     for field in fields {
         put_field(alloc, program, field, reference, state)?;
@@ -85,7 +91,11 @@ pub fn step_new(
     state: SymState,
     conts: &mut Conts,
 ) -> Result<Move, AllocError>
-    ensures { IfOk result (λ m. let v = states.fresh RefSort (state_of state) in let s = rule.put_fields (settled program.now) (map (λ f. string_bytes f.value) fields.now) v (states.with_facts (rule.distinct v (state_of state)) (states.after_fresh (state_of state))) in Stepped (settled program.now) (tree.Step (going (settled program.now) next.now.value (states.with_store (states.assign (string_bytes x.now.value) v s.store) s))) conts.old.sides.items m conts.new.sides.items) }
+    ensures { IfOk result (λ m. let v = states.fresh RefSort (state_of state) in
+        let s = rule.put_fields (settled program.now) (map (λ f. string_bytes f.value) fields.now) v
+        (states.with_facts (rule.distinct v (state_of state)) (states.after_fresh (state_of state))) in
+        Stepped (settled program.now) (tree.Step (going (settled program.now) next.now.value
+        (states.with_store (states.assign (string_bytes x.now.value) v s.store) s))) conts.old.sides.items m conts.new.sides.items) }
 {
     let mut state = state;
     let reference = state.new_reference(alloc)?;

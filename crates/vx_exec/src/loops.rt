@@ -56,7 +56,10 @@ fn entry(
     kept: usize,
     next: &Rc<Next>,
 ) -> Result<Next, AllocError>
-    ensures { IfOk result (λ n. going (settled program.now) n ≡ (λ s. consume (settled program.now) (rules (settled program.now)) (assertion it.now.value.invariant.value) (rule.codes EntryCode EntryCode) whole_amount s.heap s (executed_of (settled program.now) (Executed.Enter it.now kept) (going (settled program.now) next.now.value)))) }
+    ensures { IfOk result (λ n. going (settled program.now) n
+        ≡ (λ s. consume (settled program.now) (rules (settled program.now)) (assertion it.now.value.invariant.value)
+        (rule.codes EntryCode EntryCode) whole_amount s.heap s
+        (executed_of (settled program.now) (Executed.Enter it.now kept) (going (settled program.now) next.now.value)))) }
 {
     let _program = program;
     let hole = hole_of(Executed::Enter(it.clone()?, kept), next)?;
@@ -80,7 +83,10 @@ pub fn step_while(
     state: SymState,
     conts: &mut Conts,
 ) -> Result<Move, AllocError>
-    ensures { IfOk result (λ m. Stepped (settled program.now) (rule.exec (settled program.now) (rules (settled program.now)) (While place (expr condition.now.value) (assertions invariants.now) (block_of body.now.value)) (state_of state) (going (settled program.now) next.now.value)) conts.old.sides.items m conts.new.sides.items) }
+    ensures { IfOk result (λ m. Stepped (settled program.now)
+        (rule.exec (settled program.now) (rules (settled program.now))
+        (While place (expr condition.now.value) (assertions invariants.now) (block_of body.now.value)) (state_of state)
+        (going (settled program.now) next.now.value)) conts.old.sides.items m conts.new.sides.items) }
 {
     let it = loop_of(alloc, place, condition, invariants, body)?;
     let enter = entry(alloc, program, &it, state.store.len(), next);
@@ -95,7 +101,9 @@ fn evaluated(
     after: Executed,
     next: &Rc<Next>,
 ) -> Result<Rc<Next>, AllocError>
-    ensures { IfOk result (λ n. going (settled program.now) n.value ≡ (λ s. eval (settled program.now) (rules (settled program.now)) (expr it.now.condition.value) s (executed_of (settled program.now) after (going (settled program.now) next.now.value)))) }
+    ensures { IfOk result (λ n. going (settled program.now) n.value
+        ≡ (λ s. eval (settled program.now) (rules (settled program.now)) (expr it.now.condition.value) s
+        (executed_of (settled program.now) after (going (settled program.now) next.now.value)))) }
 {
     let _program = program;
     let given = hole_of(after, next)?;
@@ -111,7 +119,8 @@ fn from_invariant(
     after: Executed,
     next: &Rc<Next>,
 ) -> Result<Frame, AllocError>
-    ensures { IfOk result (λ f. frame_tree (settled program.now) f ≡ (λ s. from_invariant_of (settled program.now) it.now s (executed_of (settled program.now) after (going (settled program.now) next.now.value)))) }
+    ensures { IfOk result (λ f. frame_tree (settled program.now) f
+        ≡ (λ s. from_invariant_of (settled program.now) it.now s (executed_of (settled program.now) after (going (settled program.now) next.now.value)))) }
 {
     let rest = evaluated(alloc, program, it, after, next)?;
     let production = Production::as_written(alloc)?;
@@ -130,7 +139,10 @@ fn both_sides(
     second: SymState,
     conts: &mut Conts,
 ) -> Result<Move, AllocError>
-    ensures { IfOk result (λ m. Stepped (settled program.now) (tree.Fork (from_invariant_of (settled program.now) it.now.value (state_of first) (iterated (settled program.now) it.now.value kept)) (from_invariant_of (settled program.now) it.now.value (state_of second) (λ u s. tree.Step (going (settled program.now) next.now.value (with_branch (negate u) s))))) conts.old.sides.items m conts.new.sides.items) }
+    ensures { IfOk result (λ m. Stepped (settled program.now)
+        (tree.Fork (from_invariant_of (settled program.now) it.now.value (state_of first) (iterated (settled program.now) it.now.value kept))
+        (from_invariant_of (settled program.now) it.now.value (state_of second)
+        (λ u s. tree.Step (going (settled program.now) next.now.value (with_branch (negate u) s))))) conts.old.sides.items m conts.new.sides.items) }
 {
     let iterate = Executed::Iterate(it.clone()?, kept);
     let left = from_invariant(alloc, program, it, iterate, next)?;
@@ -157,7 +169,11 @@ pub fn step_enter(
     state: SymState,
     conts: &mut Conts,
 ) -> Result<Move, AllocError>
-    ensures { IfOk result (λ m. Stepped (settled program.now) (tree.Fork (from_invariant_of (settled program.now) it.now.value (with_heap [] (forgotten (settled program.now) it.now.value (state_of state))) (iterated (settled program.now) it.now.value kept)) (from_invariant_of (settled program.now) it.now.value (forgotten (settled program.now) it.now.value (state_of state)) (λ u s. tree.Step (going (settled program.now) next.now.value (with_branch (negate u) s))))) conts.old.sides.items m conts.new.sides.items) }
+    ensures { IfOk result (λ m. Stepped (settled program.now)
+        (tree.Fork (from_invariant_of (settled program.now) it.now.value (with_heap [] (forgotten (settled program.now) it.now.value (state_of state)))
+        (iterated (settled program.now) it.now.value kept)) (from_invariant_of (settled program.now) it.now.value
+        (forgotten (settled program.now) it.now.value (state_of state))
+        (λ u s. tree.Step (going (settled program.now) next.now.value (with_branch (negate u) s))))) conts.old.sides.items m conts.new.sides.items) }
 {
     let mut state = state;
     state.forget_assigned(alloc, &it.body)?;
@@ -167,7 +183,9 @@ pub fn step_enter(
 
 /// An iteration's end, where the invariant is taken again.
 fn kept_again(alloc: Global, program: &Settled, it: &Loop) -> Result<Rc<Next>, AllocError>
-    ensures { IfOk result (λ n. going (settled program.now) n.value ≡ (λ s. consume (settled program.now) (rules (settled program.now)) (assertion it.now.invariant.value) (rule.codes KeptCode KeptCode) whole_amount s.heap s (λ t s1. tree.End))) }
+    ensures { IfOk result (λ n. going (settled program.now) n.value
+        ≡ (λ s. consume (settled program.now) (rules (settled program.now)) (assertion it.now.invariant.value)
+        (rule.codes KeptCode KeptCode) whole_amount s.heap s (λ t s1. tree.End))) }
 {
     let _program = program;
     let codes = Codes {
@@ -189,7 +207,8 @@ pub fn step_iterate(
     state: SymState,
     conts: &mut Conts,
 ) -> Result<Move, AllocError>
-    ensures { IfOk result (λ m. Stepped (settled program.now) (iterated (settled program.now) it.now kept (held_term value) (state_of state)) conts.old.sides.items m conts.new.sides.items) }
+    ensures { IfOk result (λ m. Stepped (settled program.now)
+        (iterated (settled program.now) it.now kept (held_term value) (state_of state)) conts.old.sides.items m conts.new.sides.items) }
 {
     let again = kept_again(alloc, program, it)?;
     let mut state = state;
@@ -206,7 +225,9 @@ pub fn step_pass(
     state: SymState,
     conts: &mut Conts,
 ) -> Result<Move, AllocError>
-    ensures { IfOk result (λ m. Stepped (settled program.now) (tree.Step (going (settled program.now) next.now.value (with_branch (negate (held_term value.now)) (state_of state)))) conts.old.sides.items m conts.new.sides.items) }
+    ensures { IfOk result (λ m. Stepped (settled program.now)
+        (tree.Step (going (settled program.now) next.now.value (with_branch (negate (held_term value.now)) (state_of state)))) conts.old.sides.items m
+        conts.new.sides.items) }
 {
     let negated = make::not(alloc, value)?;
     let mut state = state;

@@ -26,7 +26,9 @@ pub(crate) fn eval_made(
     state: SymState,
     conts: &mut Conts,
 ) -> Result<Move, AllocError>
-    ensures { (on : Giving) → IfOk made (λ hole. giving (settled program.now) hole ≡ on) → IfOk result (λ m. Stepped (settled program.now) (Step (eval (settled program.now) (rules (settled program.now)) (expr e.now.value) (state_of state) on)) conts.old.sides.items m conts.new.sides.items) }
+    ensures { (on : Giving) → IfOk made (λ hole. giving (settled program.now) hole ≡ on)
+        → IfOk result (λ m. Stepped (settled program.now) (Step
+        (eval (settled program.now) (rules (settled program.now)) (expr e.now.value) (state_of state) on)) conts.old.sides.items m conts.new.sides.items) }
 {
     match made {
         Ok(hole) => conts.eval(alloc, program, e, hole, state),
@@ -43,7 +45,9 @@ pub(crate) fn evals_made(
     state: SymState,
     conts: &mut Conts,
 ) -> Result<Move, AllocError>
-    ensures { (on : GivingAll) → IfOk made (λ row. giving_all (settled program.now) row ≡ on) → IfOk result (λ m. Stepped (settled program.now) (Step (evals (settled program.now) (rules (settled program.now)) (exprs es.now.value) (state_of state) on)) conts.old.sides.items m conts.new.sides.items) }
+    ensures { (on : GivingAll) → IfOk made (λ row. giving_all (settled program.now) row ≡ on)
+        → IfOk result (λ m. Stepped (settled program.now) (Step
+        (evals (settled program.now) (rules (settled program.now)) (exprs es.now.value) (state_of state) on)) conts.old.sides.items m conts.new.sides.items) }
 {
     match made {
         Ok(row) => conts.evals(alloc, program, es, row, state),
@@ -59,7 +63,8 @@ pub(crate) fn next_made(
     state: SymState,
     conts: &mut Conts,
 ) -> Result<Move, AllocError>
-    ensures { (on : Going) → IfOk made (λ n. going (settled program.now) n ≡ on) → IfOk result (λ m. Stepped (settled program.now) (Step (on (state_of state))) conts.old.sides.items m conts.new.sides.items) }
+    ensures { (on : Going) → IfOk made (λ n. going (settled program.now) n ≡ on)
+        → IfOk result (λ m. Stepped (settled program.now) (Step (on (state_of state))) conts.old.sides.items m conts.new.sides.items) }
 {
     match made {
         Ok(next) => conts.next(alloc, program, next, state),
@@ -77,7 +82,8 @@ pub(crate) fn fork_made(
     state: SymState,
     conts: &mut Conts,
 ) -> Result<Move, AllocError>
-    ensures { (a b : Going) → IfOk left (λ f. frame_tree (settled program.now) f ≡ a) → IfOk right (λ f. frame_tree (settled program.now) f ≡ b) → IfOk result (λ m. Stepped (settled program.now) (fork (held_term condition) (state_of state) a b) conts.old.sides.items m conts.new.sides.items) }
+    ensures { (a b : Going) → IfOk left (λ f. frame_tree (settled program.now) f ≡ a) → IfOk right (λ f. frame_tree (settled program.now) f ≡ b)
+        → IfOk result (λ m. Stepped (settled program.now) (fork (held_term condition) (state_of state) a b) conts.old.sides.items m conts.new.sides.items) }
 {
     conts.fork(alloc, program, condition, state, left?, right?)
 }

@@ -41,7 +41,9 @@ fn consuming(
     after: Executed,
     next: &Rc<Next>,
 ) -> Result<Next, AllocError>
-    ensures { IfOk result (λ n. going (settled program.now) n ≡ (λ s. consume (settled program.now) (rules (settled program.now)) (assertion a.now.value) (rule.codes AssertCode PermissionCode) whole_amount s.heap s (executed_of (settled program.now) after (going (settled program.now) next.now.value)))) }
+    ensures { IfOk result (λ n. going (settled program.now) n
+        ≡ (λ s. consume (settled program.now) (rules (settled program.now)) (assertion a.now.value) (rule.codes AssertCode PermissionCode) whole_amount s.heap s
+        (executed_of (settled program.now) after (going (settled program.now) next.now.value)))) }
 {
     let _program = program;
     let codes = Codes {
@@ -61,7 +63,9 @@ fn asserting(
     heap: &Rc<SymHeap>,
     next: &Rc<Next>,
 ) -> Result<Next, AllocError>
-    ensures { IfOk result (λ n. going (settled program.now) n ≡ (λ s. consume (settled program.now) (rules (settled program.now)) (assertion a.now.value) (rule.codes AssertCode PermissionCode) whole_amount s.heap s (executed_of (settled program.now) (Executed.Asserted heap.now) (going (settled program.now) next.now.value)))) }
+    ensures { IfOk result (λ n. going (settled program.now) n
+        ≡ (λ s. consume (settled program.now) (rules (settled program.now)) (assertion a.now.value) (rule.codes AssertCode PermissionCode) whole_amount s.heap s
+        (executed_of (settled program.now) (Executed.Asserted heap.now) (going (settled program.now) next.now.value)))) }
 {
     consuming(alloc, program, a, Executed::Asserted(heap.clone()?), next)
 }
@@ -76,7 +80,9 @@ fn step_declare(
     state: SymState,
     conts: &mut Conts,
 ) -> Result<Move, AllocError>
-    ensures { IfOk result (λ m. Stepped (settled program.now) (tree.Step (going (settled program.now) next.now.value (declare_fresh (string_bytes x.now.value) (sort_of_type of) (state_of state)))) conts.old.sides.items m conts.new.sides.items) }
+    ensures { IfOk result (λ m. Stepped (settled program.now)
+        (tree.Step (going (settled program.now) next.now.value (declare_fresh (string_bytes x.now.value) (sort_of_type of) (state_of state))))
+        conts.old.sides.items m conts.new.sides.items) }
 {
     let mut state = state;
     state.declare_fresh(alloc, x, sort_of_value(of))?;
@@ -92,7 +98,9 @@ pub fn step(
     state: SymState,
     conts: &mut Conts,
 ) -> Result<Move, AllocError>
-    ensures { IfOk result (λ m. Stepped (settled program.now) (rule.exec (settled program.now) (rules (settled program.now)) (stmt c.now) (state_of state) (going (settled program.now) next.now.value)) conts.old.sides.items m conts.new.sides.items) }
+    ensures { IfOk result (λ m. Stepped (settled program.now)
+        (rule.exec (settled program.now) (rules (settled program.now)) (stmt c.now) (state_of state) (going (settled program.now) next.now.value))
+        conts.old.sides.items m conts.new.sides.items) }
 {
     match c {
         Stmt::Declare(_, x, of) => step_declare(alloc, program, x, *of, next, state, conts),
@@ -160,7 +168,8 @@ fn block_then(
     rest: &Rc<Block>,
     next: &Rc<Next>,
 ) -> Result<Next, AllocError>
-    ensures { (p : Program) → IfOk result (λ n. going p n ≡ (λ s. rule.exec p (rules p) (stmt first.now.value) s (λ s1. rule.exec_all p (rules p) (block_of rest.now.value) s1 (going p next.now.value)))) }
+    ensures { (p : Program) → IfOk result (λ n. going p n ≡ (λ s. rule.exec p (rules p) (stmt first.now.value) s
+        (λ s1. rule.exec_all p (rules p) (block_of rest.now.value) s1 (going p next.now.value)))) }
 {
     first_then(alloc, first, Next::Block(rest.clone()?, next.clone()?))
 }
@@ -173,7 +182,8 @@ fn inner_then(
     kept: usize,
     next: &Rc<Next>,
 ) -> Result<Next, AllocError>
-    ensures { (p : Program) → IfOk result (λ n. going p n ≡ (λ s. rule.exec p (rules p) (stmt first.now.value) s (λ s1. rule.exec_all p (rules p) (block_of rest.now.value) s1 (λ s2. going p next.now.value (leave kept s2))))) }
+    ensures { (p : Program) → IfOk result (λ n. going p n ≡ (λ s. rule.exec p (rules p) (stmt first.now.value) s
+        (λ s1. rule.exec_all p (rules p) (block_of rest.now.value) s1 (λ s2. going p next.now.value (leave kept s2))))) }
 {
     first_then(
         alloc,
@@ -191,7 +201,9 @@ pub fn step_block(
     state: SymState,
     conts: &mut Conts,
 ) -> Result<Move, AllocError>
-    ensures { IfOk result (λ m. Stepped (settled program.now) (rule.exec_all (settled program.now) (rules (settled program.now)) (block_of block.now) (state_of state) (going (settled program.now) next.now.value)) conts.old.sides.items m conts.new.sides.items) }
+    ensures { IfOk result (λ m. Stepped (settled program.now)
+        (rule.exec_all (settled program.now) (rules (settled program.now)) (block_of block.now) (state_of state) (going (settled program.now) next.now.value))
+        conts.old.sides.items m conts.new.sides.items) }
 {
     match block {
         Block::Done => on_with(program, next, state, conts),
@@ -217,7 +229,9 @@ pub fn step_inner(
     state: SymState,
     conts: &mut Conts,
 ) -> Result<Move, AllocError>
-    ensures { IfOk result (λ m. Stepped (settled program.now) (rule.exec_all (settled program.now) (rules (settled program.now)) (block_of block.now) (state_of state) (λ s. going (settled program.now) next.now.value (leave kept s))) conts.old.sides.items m conts.new.sides.items) }
+    ensures { IfOk result (λ m. Stepped (settled program.now)
+        (rule.exec_all (settled program.now) (rules (settled program.now)) (block_of block.now) (state_of state)
+        (λ s. going (settled program.now) next.now.value (leave kept s))) conts.old.sides.items m conts.new.sides.items) }
 {
     match block {
         Block::Done => {
@@ -240,7 +254,9 @@ fn inner_frame(
     kept: usize,
     next: &Rc<Next>,
 ) -> Result<Frame, AllocError>
-    ensures { IfOk result (λ f. frame_tree (settled program.now) f ≡ (λ s. rule.exec_all (settled program.now) (rules (settled program.now)) (block_of block.now.value) s (λ s1. going (settled program.now) next.now.value (leave kept s1)))) }
+    ensures { IfOk result (λ f. frame_tree (settled program.now) f
+        ≡ (λ s. rule.exec_all (settled program.now) (rules (settled program.now)) (block_of block.now.value) s
+        (λ s1. going (settled program.now) next.now.value (leave kept s1)))) }
 {
     let _program = program;
     let inner = Rc::new(alloc, Next::Inner(block.clone()?, kept, next.clone()?))?;
@@ -257,7 +273,9 @@ fn step_assign(
     state: SymState,
     conts: &mut Conts,
 ) -> Result<Move, AllocError>
-    ensures { IfOk result (λ m. Stepped (settled program.now) (executed_of (settled program.now) (Executed.Assign x.now) (going (settled program.now) next.now.value) (held_term value) (state_of state)) conts.old.sides.items m conts.new.sides.items) }
+    ensures { IfOk result (λ m. Stepped (settled program.now)
+        (executed_of (settled program.now) (Executed.Assign x.now) (going (settled program.now) next.now.value) (held_term value) (state_of state))
+        conts.old.sides.items m conts.new.sides.items) }
 {
     let mut state = state;
     let name = state.name(alloc, value)?;
@@ -274,7 +292,9 @@ fn step_assume(
     state: SymState,
     conts: &mut Conts,
 ) -> Result<Move, AllocError>
-    ensures { IfOk result (λ m. Stepped (settled program.now) (executed_of (settled program.now) Executed.Assume (going (settled program.now) next.now.value) (held_term value) (state_of state)) conts.old.sides.items m conts.new.sides.items) }
+    ensures { IfOk result (λ m. Stepped (settled program.now)
+        (executed_of (settled program.now) Executed.Assume (going (settled program.now) next.now.value) (held_term value) (state_of state))
+        conts.old.sides.items m conts.new.sides.items) }
 {
     let mut state = state;
     state.add_fact(alloc, value)?;
@@ -289,7 +309,9 @@ fn step_asserted(
     state: SymState,
     conts: &mut Conts,
 ) -> Result<Move, AllocError>
-    ensures { IfOk result (λ m. Stepped (settled program.now) (tree.Step (going (settled program.now) next.now.value (with_heap (heap_of heap.now.value) (state_of state)))) conts.old.sides.items m conts.new.sides.items) }
+    ensures { IfOk result (λ m. Stepped (settled program.now)
+        (tree.Step (going (settled program.now) next.now.value (with_heap (heap_of heap.now.value) (state_of state)))) conts.old.sides.items m
+        conts.new.sides.items) }
 {
     let mut state = state;
     let _rest = state.exchange_heap(heap.clone()?);
@@ -307,7 +329,9 @@ pub fn step_executed(
     conts: &mut Conts,
 ) -> Result<Move, AllocError>
     requires { is_plain executed.now ≡ true }
-    ensures { IfOk result (λ m. Stepped (settled program.now) (executed_of (settled program.now) executed.now (going (settled program.now) next.now.value) (held_term value) (state_of state)) conts.old.sides.items m conts.new.sides.items) }
+    ensures { IfOk result (λ m. Stepped (settled program.now)
+        (executed_of (settled program.now) executed.now (going (settled program.now) next.now.value) (held_term value) (state_of state)) conts.old.sides.items m
+        conts.new.sides.items) }
 {
     match executed {
         Executed::Assign(x) => step_assign(alloc, program, value, x, next, state, conts),

@@ -19,7 +19,8 @@ fn more_declarations<'t>(
     mut declarations: Vec<Declaration>,
     tokens: &'t [Token<'t>],
 ) -> Read<'t, Vec<Declaration>>
-    ensures { Gives (λ x. (map written_declaration x.0.items, tokens_in x.1.now)) result (run reading.declaration_turn (length (tokens_in tokens.now)) (map written_declaration declarations.items) (tokens_in tokens.now)) }
+    ensures { Gives (λ x. (map written_declaration x.0.items, tokens_in x.1.now)) result
+        (run reading.declaration_turn (length (tokens_in tokens.now)) (map written_declaration declarations.items) (tokens_in tokens.now)) }
 {
     let mut rest = tokens;
     for _ in 0..tokens.len() {

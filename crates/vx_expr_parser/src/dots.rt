@@ -47,7 +47,8 @@ fn nested_dot<'t>(
     tokens: &'t [Token<'t>],
 ) -> Read<'t, Expr>
     requires { room < 1000 }
-    ensures { Gives (λ x. (written_expr x.0, tokens_in x.1.now)) result (reading.below room (reading.behind_dot place (written_expr left)) (tokens_in here.now) (tokens_in tokens.now)) }
+    ensures { Gives (λ x. (written_expr x.0, tokens_in x.1.now)) result
+        (reading.below room (reading.behind_dot place (written_expr left)) (tokens_in here.now) (tokens_in tokens.now)) }
 {
     let left = Rc::new(alloc, left)?;
     match room.checked_sub(1) {

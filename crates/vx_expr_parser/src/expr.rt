@@ -60,7 +60,8 @@ fn sides<'t>(
 ) -> Read<'t, Expr>
     requires room { room < 1000 }
     requires first { tokens_in here.now ≡ token_of question.now ∷ tokens_in tokens.now }
-    ensures { Gives (λ x. (written_expr x.0, tokens_in x.1.now)) result (reading.sides_by (reading.below room) place (written_expr condition.value) (token_of question.now) (tokens_in tokens.now)) }
+    ensures { Gives (λ x. (written_expr x.0, tokens_in x.1.now)) result
+        (reading.sides_by (reading.below room) place (written_expr condition.value) (token_of question.now) (tokens_in tokens.now)) }
 {
     let (left, rest) = shared_choice(alloc, room, here, tokens)?;
     let (right, rest) = second(alloc, room, rest)?;
@@ -110,7 +111,8 @@ fn implied<'t>(
 ) -> Read<'t, Expr>
     requires room { room < 1000 }
     requires first { tokens_in here.now ≡ token_of arrow.now ∷ tokens_in tokens.now }
-    ensures { Gives (λ x. (written_expr x.0, tokens_in x.1.now)) result (reading.implies_by (reading.below room) place (written_expr left) (token_of arrow.now) (tokens_in tokens.now)) }
+    ensures { Gives (λ x. (written_expr x.0, tokens_in x.1.now)) result
+        (reading.implies_by (reading.below room) place (written_expr left) (token_of arrow.now) (tokens_in tokens.now)) }
 {
     let left = Rc::new(alloc, left)?;
     let (right, rest) = nested_implication(alloc, room, here, tokens)?;
@@ -181,7 +183,8 @@ fn operated<'t>(
     requires low { 1 ≤ level }
     requires level { level ≤ 6 }
     requires first { tokens_in here.now ≡ token_of first.now ∷ tokens_in tokens.now }
-    ensures { Gives (λ x. (written_expr x.0, tokens_in x.1.now)) result (reading.operator_by (reading.below room) (level - 1) place (written_expr left) (token_of first.now) (tokens_in tokens.now) op) }
+    ensures { Gives (λ x. (written_expr x.0, tokens_in x.1.now)) result
+        (reading.operator_by (reading.below room) (level - 1) place (written_expr left) (token_of first.now) (tokens_in tokens.now) op) }
 {
     let left = Rc::new(alloc, left)?;
     match room.checked_sub(1) {
@@ -452,7 +455,8 @@ fn more_arguments<'t>(
     tokens: &'t [Token<'t>],
 ) -> Read<'t, Vec<Rc<Expr>>>
     requires { room < 1000 }
-    ensures { Gives (λ x. (exprs_of x.0.items, tokens_in x.1.now)) result (reading.run (reading.argument_turn (reading.below room)) (length (tokens_in tokens.now)) (exprs_of arguments.items) (tokens_in tokens.now)) }
+    ensures { Gives (λ x. (exprs_of x.0.items, tokens_in x.1.now)) result
+        (reading.run (reading.argument_turn (reading.below room)) (length (tokens_in tokens.now)) (exprs_of arguments.items) (tokens_in tokens.now)) }
 {
     let mut rest = tokens;
     for _ in 0..tokens.len() {

@@ -38,7 +38,8 @@ pub fn more_names<'t>(
     mut names: Vec<Name>,
     tokens: &'t [Token<'t>],
 ) -> Read<'t, Vec<Name>>
-    ensures { Gives (λ x. (map name_of x.0.items, tokens_in x.1.now)) result (reading.run reading.name_turn (length (tokens_in tokens.now)) (map name_of names.items) (tokens_in tokens.now)) }
+    ensures { Gives (λ x. (map name_of x.0.items, tokens_in x.1.now)) result
+        (reading.run reading.name_turn (length (tokens_in tokens.now)) (map name_of names.items) (tokens_in tokens.now)) }
 {
     let mut rest = tokens;
     for _ in 0..tokens.len() {

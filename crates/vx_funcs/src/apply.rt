@@ -39,7 +39,11 @@ fn taking_precondition(
     heap: Rc<SymHeap>,
     hole: &Rc<Hole>,
 ) -> Result<Next, AllocError>
-    ensures { IfOk result (λ n. going (settled program.now) n ≡ (λ s. consume (settled program.now) (rules (settled program.now)) (joined_of (function_of x.now.value.function.value).place (function_of x.now.value.function.value).requires) (record { pure = FunctionCode; permission = FunctionCode; builds = true }) whole_amount s.heap s (operand_of (settled program.now) (Operand.Applied x.now caller heap) (giving (settled program.now) hole.now.value)))) }
+    ensures { IfOk result (λ n. going (settled program.now) n
+        ≡ (λ s. consume (settled program.now) (rules (settled program.now))
+        (joined_of (function_of x.now.value.function.value).place (function_of x.now.value.function.value).requires)
+        (record { pure = FunctionCode; permission = FunctionCode; builds = true }) whole_amount s.heap s
+        (operand_of (settled program.now) (Operand.Applied x.now caller heap) (giving (settled program.now) hole.now.value)))) }
 {
     let _program = program;
     let all = precondition(alloc, &x.function)?;
@@ -63,7 +67,13 @@ fn step_taking(
     state: SymState,
     conts: &mut Conts,
 ) -> Result<Move, AllocError>
-    ensures { IfOk result (λ m. Stepped (settled program.now) (tree.Step ((rules (settled program.now)).consume (joined_of (function_of x.now.value.function.value).place (function_of x.now.value.function.value).requires) (record { pure = FunctionCode; permission = FunctionCode; builds = true }) whole_amount (state_of state).heap (entered (bind (function_of x.now.value.function.value).parameters (values_of x.now.value.arguments.value)) x.now.value.place (state_of state)) (λ t s. measuring (settled program.now) x.now.value (name_of t (with_heap (state_of state).heap (back (state_of state) s))) (giving (settled program.now) hole.now.value) (after_name t (with_heap (state_of state).heap (back (state_of state) s)))))) conts.old.sides.items m conts.new.sides.items) }
+    ensures { IfOk result (λ m. Stepped (settled program.now)
+        (tree.Step ((rules (settled program.now)).consume (joined_of (function_of x.now.value.function.value).place
+        (function_of x.now.value.function.value).requires) (record { pure = FunctionCode; permission = FunctionCode; builds = true }) whole_amount
+        (state_of state).heap (entered (bind (function_of x.now.value.function.value).parameters (values_of x.now.value.arguments.value)) x.now.value.place
+        (state_of state)) (λ t s. measuring (settled program.now) x.now.value (name_of t (with_heap (state_of state).heap (back (state_of state) s)))
+        (giving (settled program.now) hole.now.value) (after_name t (with_heap (state_of state).heap (back (state_of state) s)))))) conts.old.sides.items m
+        conts.new.sides.items) }
 {
     program.keeps_apart();
     vx_depth::rules_read_parts_by_themselves();
@@ -85,7 +95,9 @@ pub fn step_apply(
     state: SymState,
     conts: &mut Conts,
 ) -> Result<Move, AllocError>
-    ensures { IfOk result (λ m. Stepped (settled program.now) (rule.applied (settled program.now) (rules (settled program.now)) (rule.placed (state_of state) place) (string_bytes name.now.value) (values_of arguments.now.value) (state_of state) (giving (settled program.now) hole.now.value)) conts.old.sides.items m conts.new.sides.items) }
+    ensures { IfOk result (λ m. Stepped (settled program.now)
+        (rule.applied (settled program.now) (rules (settled program.now)) (rule.placed (state_of state) place) (string_bytes name.now.value)
+        (values_of arguments.now.value) (state_of state) (giving (settled program.now) hole.now.value)) conts.old.sides.items m conts.new.sides.items) }
 {
     let place = state.placed(place);
     match program.function(name)? {
@@ -115,7 +127,10 @@ pub fn step_applied(
     state: SymState,
     conts: &mut Conts,
 ) -> Result<Move, AllocError>
-    ensures { IfOk result (λ m. Stepped (settled program.now) (measuring (settled program.now) x.now.value (name_of (held_term snapshot) (with_heap (heap_of heap.now.value) (back_to caller.now (state_of state)))) (giving (settled program.now) hole.now.value) (after_name (held_term snapshot) (with_heap (heap_of heap.now.value) (back_to caller.now (state_of state))))) conts.old.sides.items m conts.new.sides.items) }
+    ensures { IfOk result (λ m. Stepped (settled program.now)
+        (measuring (settled program.now) x.now.value (name_of (held_term snapshot) (with_heap (heap_of heap.now.value) (back_to caller.now (state_of state))))
+        (giving (settled program.now) hole.now.value) (after_name (held_term snapshot)
+        (with_heap (heap_of heap.now.value) (back_to caller.now (state_of state))))) conts.old.sides.items m conts.new.sides.items) }
 {
     let mut state = state;
     state.back(alloc, caller)?;

@@ -53,7 +53,9 @@ fn tell(
     state: SymState,
     conts: &mut Conts,
 ) -> Result<Move, AllocError>
-    ensures { IfOk result (λ m. Stepped (settled program.now) (tree.Step (told (settled program.now) x.now.value (giving (settled program.now) hole.now.value) (state_of state))) conts.old.sides.items m conts.new.sides.items) }
+    ensures { IfOk result (λ m. Stepped (settled program.now)
+        (tree.Step (told (settled program.now) x.now.value (giving (settled program.now) hole.now.value) (state_of state))) conts.old.sides.items m
+        conts.new.sides.items) }
 {
     let next = Next::Tell(x.clone()?, hole.clone()?);
     conts.next(alloc, program, next, state)
@@ -93,7 +95,13 @@ fn step_number(
     state: SymState,
     conts: &mut Conts,
 ) -> Result<Move, AllocError>
-    ensures { IfOk result (λ m. Stepped (settled program.now) (tree.Step ((rules (settled program.now)).eval (expr e.now.value) (entered (bind (function_of x.now.value.application.value.function.value).parameters (values_of x.now.value.application.value.arguments.value)) x.now.value.application.value.place (state_of state)) (λ t s. rule.ask (lesser (settled program.now) (rules (settled program.now)) (own_of own).measure t) x.now.value.application.value.place MeasureCode (rule.back (state_of state) s) (told (settled program.now) x.now.value (giving (settled program.now) hole.now.value))))) conts.old.sides.items m conts.new.sides.items) }
+    ensures { IfOk result (λ m. Stepped (settled program.now)
+        (tree.Step ((rules (settled program.now)).eval (expr e.now.value)
+        (entered (bind (function_of x.now.value.application.value.function.value).parameters (values_of x.now.value.application.value.arguments.value))
+        x.now.value.application.value.place (state_of state)) (λ t s.
+        rule.ask (lesser (settled program.now) (rules (settled program.now)) (own_of own).measure t) x.now.value.application.value.place MeasureCode
+        (rule.back (state_of state) s) (told (settled program.now) x.now.value (giving (settled program.now) hole.now.value))))) conts.old.sides.items m
+        conts.new.sides.items) }
 {
     program.keeps_apart();
     vx_depth::rules_read_parts_by_themselves();
@@ -115,7 +123,11 @@ fn step_instance(
     state: SymState,
     conts: &mut Conts,
 ) -> Result<Move, AllocError>
-    ensures { IfOk result (λ m. Stepped (settled program.now) (tree.Step ((rules (settled program.now)).evals (exprs es.now.value) (entered (bind (function_of x.now.value.application.value.function.value).parameters (values_of x.now.value.application.value.arguments.value)) x.now.value.application.value.place (state_of state)) (λ ts s. measured_by (settled program.now) x.now.value (string_bytes predicate.now.value) ts (rule.back (state_of state) s) (giving (settled program.now) hole.now.value)))) conts.old.sides.items m conts.new.sides.items) }
+    ensures { IfOk result (λ m. Stepped (settled program.now)
+        (tree.Step ((rules (settled program.now)).evals (exprs es.now.value)
+        (entered (bind (function_of x.now.value.application.value.function.value).parameters (values_of x.now.value.application.value.arguments.value))
+        x.now.value.application.value.place (state_of state)) (λ ts s. measured_by (settled program.now) x.now.value (string_bytes predicate.now.value) ts
+        (rule.back (state_of state) s) (giving (settled program.now) hole.now.value)))) conts.old.sides.items m conts.new.sides.items) }
 {
     program.keeps_apart();
     vx_depth::rules_read_parts_by_themselves();
@@ -136,7 +148,9 @@ fn step_kind(
     state: SymState,
     conts: &mut Conts,
 ) -> Result<Move, AllocError>
-    ensures { IfOk result (λ r. Stepped (settled program.now) (decreasing_by (settled program.now) (own_of own) x.now.value (Some (measure_of m.now)) (giving (settled program.now) hole.now.value) (state_of state)) conts.old.sides.items r conts.new.sides.items) }
+    ensures { IfOk result (λ r. Stepped (settled program.now)
+        (decreasing_by (settled program.now) (own_of own) x.now.value (Some (measure_of m.now)) (giving (settled program.now) hole.now.value) (state_of state))
+        conts.old.sides.items r conts.new.sides.items) }
 {
     match m {
         Measure::Number(e) => step_number(alloc, program, own, x, e, hole, state, conts),
@@ -156,7 +170,9 @@ fn step_decreasing(
     state: SymState,
     conts: &mut Conts,
 ) -> Result<Move, AllocError>
-    ensures { IfOk result (λ m. Stepped (settled program.now) (decreasing_by (settled program.now) (own_of own) x.now.value (function_of x.now.value.application.value.function.value).decreases (giving (settled program.now) hole.now.value) (state_of state)) conts.old.sides.items m conts.new.sides.items) }
+    ensures { IfOk result (λ m. Stepped (settled program.now)
+        (decreasing_by (settled program.now) (own_of own) x.now.value (function_of x.now.value.application.value.function.value).decreases
+        (giving (settled program.now) hole.now.value) (state_of state)) conts.old.sides.items m conts.new.sides.items) }
 {
     match &x.application.function.measure {
         None => conts.never(alloc, program, x.application.place, Code::Measure, state),
@@ -173,7 +189,9 @@ pub(crate) fn step_measuring(
     state: SymState,
     conts: &mut Conts,
 ) -> Result<Move, AllocError>
-    ensures { IfOk result (λ m. Stepped (settled program.now) (measuring (settled program.now) x.now.value.application.value (held_term x.now.value.snapshot) (giving (settled program.now) hole.now.value) (state_of state)) conts.old.sides.items m conts.new.sides.items) }
+    ensures { IfOk result (λ m. Stepped (settled program.now)
+        (measuring (settled program.now) x.now.value.application.value (held_term x.now.value.snapshot) (giving (settled program.now) hole.now.value)
+        (state_of state)) conts.old.sides.items m conts.new.sides.items) }
 {
     match measured_against(program, &x.application, &state)? {
         None => tell(alloc, program, x, hole, state, conts),
@@ -208,7 +226,10 @@ pub fn step_measured(
     state: SymState,
     conts: &mut Conts,
 ) -> Result<Move, AllocError>
-    ensures { IfOk result (λ v. Stepped (settled program.now) (rule.ask (lesser (settled program.now) (rules (settled program.now)) (optional_term own.now) (held_term m.now)) x.now.value.application.value.place MeasureCode (back_to caller.now (state_of state)) (told (settled program.now) x.now.value (giving (settled program.now) hole.now.value))) conts.old.sides.items v conts.new.sides.items) }
+    ensures { IfOk result (λ v. Stepped (settled program.now)
+        (rule.ask (lesser (settled program.now) (rules (settled program.now)) (optional_term own.now) (held_term m.now)) x.now.value.application.value.place
+        MeasureCode (back_to caller.now (state_of state)) (told (settled program.now) x.now.value (giving (settled program.now) hole.now.value)))
+        conts.old.sides.items v conts.new.sides.items) }
 {
     let mut state = state;
     state.back(alloc, caller)?;

@@ -46,7 +46,11 @@ fn first_part(
     v: &Rc<Verified>,
     snapshot: Rc<Term>,
 ) -> Result<Rc<Next>, AllocError>
-    ensures { IfOk result (λ n. (s : State) → going (settled program.now) n.value s ≡ produce (settled program.now) (rules (settled program.now)) (joined_of (function_of v.now.value.function.value).place (function_of v.now.value.function.value).requires) whole_amount (Some (held_term snapshot)) s (rule.from_measure (settled program.now) (rules (settled program.now)) (string_bytes v.now.value.name.value) (function_of v.now.value.function.value) (function_of v.now.value.function.value).decreases)) }
+    ensures { IfOk result (λ n. (s : State) → going (settled program.now) n.value s
+        ≡ produce (settled program.now) (rules (settled program.now))
+        (joined_of (function_of v.now.value.function.value).place (function_of v.now.value.function.value).requires) whole_amount (Some (held_term snapshot)) s
+        (rule.from_measure (settled program.now) (rules (settled program.now)) (string_bytes v.now.value.name.value) (function_of v.now.value.function.value)
+        (function_of v.now.value.function.value).decreases)) }
 {
     let _program = program;
     let all = precondition(alloc, &v.function)?;
@@ -69,7 +73,8 @@ pub fn verified_side(
     name: &Rc<String>,
     function: &Rc<Function>,
 ) -> Result<Side, AllocError>
-    ensures { IfOk result (λ side. side_tree (settled program.now) side ≡ rule.function_over (settled program.now) (rules (settled program.now)) (string_bytes name.now.value) (function_of function.now.value)) }
+    ensures { IfOk result (λ side. side_tree (settled program.now) side
+        ≡ rule.function_over (settled program.now) (rules (settled program.now)) (string_bytes name.now.value) (function_of function.now.value)) }
 {
     let verified = Verified {
         name: name.clone()?,
@@ -102,7 +107,8 @@ fn run(
     state: SymState,
     conts: &mut Conts,
 ) -> Result<Move, AllocError>
-    ensures { IfOk result (λ m. Stepped (settled program.now) (verified_body (settled program.now) v.now.value (optional_term measure) (state_of state)) conts.old.sides.items m conts.new.sides.items) }
+    ensures { IfOk result (λ m. Stepped (settled program.now)
+        (verified_body (settled program.now) v.now.value (optional_term measure) (state_of state)) conts.old.sides.items m conts.new.sides.items) }
 {
     let own = Own {
         function: v.name.clone()?,
@@ -135,7 +141,8 @@ pub fn step_entry(
     state: SymState,
     conts: &mut Conts,
 ) -> Result<Move, AllocError>
-    ensures { IfOk result (λ m. Stepped (settled program.now) (verified_body (settled program.now) v.now.value (Some (held_term measure)) (state_of state)) conts.old.sides.items m conts.new.sides.items) }
+    ensures { IfOk result (λ m. Stepped (settled program.now) (verified_body (settled program.now) v.now.value (Some (held_term measure)) (state_of state))
+        conts.old.sides.items m conts.new.sides.items) }
 {
     run(alloc, program, v, Some(measure), state, conts)
 }
@@ -149,7 +156,9 @@ fn step_kind(
     state: SymState,
     conts: &mut Conts,
 ) -> Result<Move, AllocError>
-    ensures { IfOk result (λ r. Stepped (settled program.now) (rule.from_measure (settled program.now) (rules (settled program.now)) (string_bytes v.now.value.name.value) (function_of v.now.value.function.value) (Some (measure_of m.now)) (state_of state)) conts.old.sides.items r conts.new.sides.items) }
+    ensures { IfOk result (λ r. Stepped (settled program.now)
+        (rule.from_measure (settled program.now) (rules (settled program.now)) (string_bytes v.now.value.name.value) (function_of v.now.value.function.value)
+        (Some (measure_of m.now)) (state_of state)) conts.old.sides.items r conts.new.sides.items) }
 {
     match m {
         Measure::Number(e) => {
@@ -171,7 +180,9 @@ pub fn step_measure(
     state: SymState,
     conts: &mut Conts,
 ) -> Result<Move, AllocError>
-    ensures { IfOk result (λ m. Stepped (settled program.now) (rule.from_measure (settled program.now) (rules (settled program.now)) (string_bytes v.now.value.name.value) (function_of v.now.value.function.value) (function_of v.now.value.function.value).decreases (state_of state)) conts.old.sides.items m conts.new.sides.items) }
+    ensures { IfOk result (λ m. Stepped (settled program.now)
+        (rule.from_measure (settled program.now) (rules (settled program.now)) (string_bytes v.now.value.name.value) (function_of v.now.value.function.value)
+        (function_of v.now.value.function.value).decreases (state_of state)) conts.old.sides.items m conts.new.sides.items) }
 {
     match &v.function.measure {
         None => step_run(alloc, program, v, state, conts),

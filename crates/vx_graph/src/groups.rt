@@ -89,7 +89,8 @@ impl Grouping {
         requires member { member.0 < length self.old.roots.items }
         ensures roots { self.new.roots.items ≡ self.old.roots.items }
         ensures left { self.new.left.items ≡ self.old.left.items }
-        ensures group { OnOk result (IsWhole (rows edges.now) self.old.left.items → is_marked self.old.left.items member.0 ≡ true → (n : ℕ) → (is_in self.new.after.order.items n ≡ true) ↔ Together (rows edges.now) member.0 n) }
+        ensures group { OnOk result (IsWhole (rows edges.now) self.old.left.items → is_marked self.old.left.items member.0 ≡ true → (n : ℕ)
+            → (is_in self.new.after.order.items n ≡ true) ↔ Together (rows edges.now) member.0 n) }
     {
         self.before.clear();
         find_within(&mut self.before, &edges.sources, &self.left, member)?;

@@ -18,7 +18,8 @@ fn find(found: &mut Found, member: MemberId, marks: &[bool]) -> Result<(), Alloc
     requires marks { length marks.now ≡ length found.old.marks.items }
     ensures members { length found.new.marks.items ≡ length found.old.marks.items }
     ensures found { OnOk result (is_marked marks.now member.0 ≡ true → is_in found.new.order.items member.0 ≡ true) }
-    ensures order { OnOk result ((found.new.order.items ≡ found.old.order.items) ⊎ ((found.new.order.items ≡ found.old.order.items ++ member ∷ []) × (is_marked marks.now member.0 ≡ true))) }
+    ensures order { OnOk result ((found.new.order.items ≡ found.old.order.items)
+        ⊎ ((found.new.order.items ≡ found.old.order.items ++ member ∷ []) × (is_marked marks.now member.0 ≡ true))) }
 {
     if marks[member.0 as usize] {
         found.mark(member)?;
@@ -36,7 +37,8 @@ fn find_all(
     requires marks { length marks.now ≡ length found.old.marks.items }
     ensures members { length found.new.marks.items ≡ length found.old.marks.items }
     ensures found { OnOk result (All (λ m. is_marked marks.now m.0 ≡ true → is_in found.new.order.items m.0 ≡ true) row.now) }
-    ensures order { OnOk result ((added : List MemberId) × (found.new.order.items ≡ found.old.order.items ++ added) × All (λ m. (is_in row.now m.0 ≡ true) × (is_marked marks.now m.0 ≡ true)) added) }
+    ensures order { OnOk result ((added : List MemberId) × (found.new.order.items ≡ found.old.order.items ++ added)
+        × All (λ m. (is_in row.now m.0 ≡ true) × (is_marked marks.now m.0 ≡ true)) added) }
 {
     for m in row {
         find(found, *m, marks)?;

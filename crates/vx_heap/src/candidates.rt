@@ -46,7 +46,8 @@ impl SymHeap {
         number: usize,
         found: &mut Vec<Candidate>,
     ) -> Result<(), AllocError>
-        ensures { OnOk result ((rest : List ℕ) → candidates_of found.new.items ++ picked identical (key resource.now arguments.now) (heap self.now) rest ≡ candidates_of found.old.items ++ picked identical (key resource.now arguments.now) (heap self.now) (number ∷ rest)) }
+        ensures { OnOk result ((rest : List ℕ) → candidates_of found.new.items ++ picked identical (key resource.now arguments.now) (heap self.now) rest
+            ≡ candidates_of found.old.items ++ picked identical (key resource.now arguments.now) (heap self.now) (number ∷ rest)) }
     {
         match self.chunks.get(number) {
             Some(chunk) => {

@@ -122,7 +122,8 @@ fn copy_terms(alloc: Global, terms: &[Rc<Term>]) -> Result<Vec<Rc<Term>>, AllocE
 impl Chunk {
     /// Whether it is of a resource and has identical arguments or, where those are asked for, others.
     pub fn is_chosen(&self, identical: bool, resource: &Resource, arguments: &[Rc<Term>]) -> bool
-        ensures { result ≡ (is_kin (key resource.now arguments.now) (chunk_view self.now) && same_bool identical (same_arguments (terms_of arguments.now) (chunk_view self.now).arguments)) }
+        ensures { result ≡ (is_kin (key resource.now arguments.now) (chunk_view self.now)
+            && same_bool identical (same_arguments (terms_of arguments.now) (chunk_view self.now).arguments)) }
     {
         resource.is_same(&self.resource) && identical == are_same(arguments, &self.arguments)
     }

@@ -102,7 +102,8 @@ fn add_at_most(
     other: &Chunk,
     facts: &mut Vec<Rc<Term>>,
 ) -> Result<(), AllocError>
-    ensures { OnOk result ((rest : List written.Term) → terms_of facts.new.items ++ rest ≡ terms_of facts.old.items ++ (bounding bounded (chunks.at_most_whole (chunk_view whole.now) (chunk_view other.now) ∷ []) ++ rest)) }
+    ensures { OnOk result ((rest : List written.Term) → terms_of facts.new.items ++ rest
+        ≡ terms_of facts.old.items ++ (bounding bounded (chunks.at_most_whole (chunk_view whole.now) (chunk_view other.now) ∷ []) ++ rest)) }
 {
     if !bounded {
         return Ok(());
@@ -119,7 +120,8 @@ fn add_one_value(
     other: &Chunk,
     facts: &mut Vec<Rc<Term>>,
 ) -> Result<(), AllocError>
-    ensures { OnOk result ((rest : List written.Term) → terms_of facts.new.items ++ rest ≡ terms_of facts.old.items ++ (bounding summed (chunks.one_value (chunk_view whole.now) (chunk_view other.now) ∷ []) ++ rest)) }
+    ensures { OnOk result ((rest : List written.Term) → terms_of facts.new.items ++ rest
+        ≡ terms_of facts.old.items ++ (bounding summed (chunks.one_value (chunk_view whole.now) (chunk_view other.now) ∷ []) ++ rest)) }
 {
     if !summed {
         return Ok(());
@@ -137,7 +139,8 @@ fn add_apart(
     others: &[Candidate],
     facts: &mut Vec<Rc<Term>>,
 ) -> Result<(), AllocError>
-    ensures { OnOk result ((rest : List written.Term) → terms_of facts.new.items ++ rest ≡ terms_of facts.old.items ++ apart_onto summed bounded (chunk_view whole.now) (candidates_of others.now) rest) }
+    ensures { OnOk result ((rest : List written.Term) → terms_of facts.new.items ++ rest
+        ≡ terms_of facts.old.items ++ apart_onto summed bounded (chunk_view whole.now) (candidates_of others.now) rest) }
 {
     for other in others {
         add_at_most(alloc, bounded, whole, &other.chunk, facts)?;
@@ -178,7 +181,9 @@ fn add_sum(
     others: Vec<Candidate>,
     facts: &mut Vec<Rc<Term>>,
 ) -> Result<(), AllocError>
-    ensures { OnOk result (terms_of facts.new.items ≡ terms_of facts.old.items ++ bounding (summed && bounded) (chunks.at_most_three (chunks.first_argument (shared whole.chunk).arguments) (candidate whole ∷ (rest_of (chosen true (shared whole.chunk) 0 (heap held.now)) ++ candidates_of others.items)))) }
+    ensures { OnOk result (terms_of facts.new.items ≡ terms_of facts.old.items ++ bounding (summed && bounded)
+        (chunks.at_most_three (chunks.first_argument (shared whole.chunk).arguments)
+        (candidate whole ∷ (rest_of (chosen true (shared whole.chunk) 0 (heap held.now)) ++ candidates_of others.items)))) }
 {
     if !summed {
         return Ok(());
@@ -200,7 +205,8 @@ fn add_behind(
     held: &SymHeap,
     facts: &mut Vec<Rc<Term>>,
 ) -> Result<(), AllocError>
-    ensures { OnOk result (terms_of facts.new.items ≡ terms_of facts.old.items ++ (apart summed bounded (shared whole.chunk) (heap held.now) ++ sum_fact (summed && bounded) whole.number (shared whole.chunk) (heap held.now))) }
+    ensures { OnOk result (terms_of facts.new.items ≡ terms_of facts.old.items
+        ++ (apart summed bounded (shared whole.chunk) (heap held.now) ++ sum_fact (summed && bounded) whole.number (shared whole.chunk) (heap held.now))) }
 {
     let others = held.others(alloc, &whole.chunk)?;
     add_apart(alloc, summed, bounded, &whole.chunk, &others, facts)?;
@@ -229,7 +235,8 @@ pub fn facts_beside(
     new: &Rc<Chunk>,
     held: &SymHeap,
 ) -> Result<Vec<Rc<Term>>, AllocError>
-    ensures { IfOk result (λ facts. terms_of facts.items ≡ chunks.field_facts summed bounded [] (shared new.now) (heap held.now) ++ sum_fact (summed && bounded) (length (heap held.now)) (shared new.now) (heap held.now)) }
+    ensures { IfOk result (λ facts. terms_of facts.items ≡ chunks.field_facts summed bounded [] (shared new.now) (heap held.now) ++ sum_fact (summed && bounded)
+        (length (heap held.now)) (shared new.now) (heap held.now)) }
 {
     let mut facts = own_facts(alloc, bounded, new)?;
     let whole = Candidate {
@@ -248,7 +255,9 @@ fn pair_facts(
     old: &Chunk,
     whole: &Chunk,
 ) -> Result<Vec<Rc<Term>>, AllocError>
-    ensures { IfOk result (λ facts. terms_of facts.items ≡ (chunks.is_not_null (chunk_view new.now) ∷ bounding bounded (built.less_equal (held_term new.now.amount) whole_amount ∷ [])) ++ (chunks.agree (chunk_view new.now) (chunk_view old.now) ∷ bounding bounded (built.less_equal (held_term whole.now.amount) whole_amount ∷ []))) }
+    ensures { IfOk result (λ facts. terms_of facts.items ≡ (chunks.is_not_null (chunk_view new.now)
+        ∷ bounding bounded (built.less_equal (held_term new.now.amount) whole_amount ∷ []))
+        ++ (chunks.agree (chunk_view new.now) (chunk_view old.now) ∷ bounding bounded (built.less_equal (held_term whole.now.amount) whole_amount ∷ []))) }
 {
     let mut facts = own_facts(alloc, bounded, new)?;
     facts.push(agree(alloc, new, old)?)?;
@@ -270,7 +279,8 @@ pub fn facts_merged(
     held: &SymHeap,
 ) -> Result<Vec<Rc<Term>>, AllocError>
     requires { shared whole.chunk ≡ chunks.merged (chunk_view new.now) (chunk_view old.now) }
-    ensures { IfOk result (λ facts. terms_of facts.items ≡ chunks.field_facts summed bounded (standing whole.number (chunk_view old.now)) (chunk_view new.now) (heap held.now) ++ sum_fact (summed && bounded) whole.number (shared whole.chunk) (heap held.now)) }
+    ensures { IfOk result (λ facts. terms_of facts.items ≡ chunks.field_facts summed bounded (standing whole.number (chunk_view old.now)) (chunk_view new.now)
+        (heap held.now) ++ sum_fact (summed && bounded) whole.number (shared whole.chunk) (heap held.now)) }
 {
     let mut facts = pair_facts(alloc, bounded, new, old, &whole.chunk)?;
     add_behind(alloc, summed, bounded, whole, held, &mut facts)?;

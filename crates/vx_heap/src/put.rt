@@ -100,7 +100,8 @@ impl SymHeap {
         bounded: bool,
         new: Chunk,
     ) -> Result<Vec<Rc<Term>>, AllocError>
-        ensures ok { IfOk result (λ facts. (s : State) → not (is_quiet s) ≡ summed → with_facts (terms_of facts.items) (over bounded (heap self.new) s) ≡ chunks.put (chunk_view new) (over bounded (heap self.old) s)) }
+        ensures ok { IfOk result (λ facts. (s : State) → not (is_quiet s) ≡ summed → with_facts (terms_of facts.items) (over bounded (heap self.new) s)
+            ≡ chunks.put (chunk_view new) (over bounded (heap self.old) s)) }
         ensures err { OnErr result (heap self.new ≡ heap self.old) }
     {
         if is_zero(&new.amount) {

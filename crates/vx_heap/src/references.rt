@@ -39,7 +39,8 @@ pub fn add_unlike(
     t: &Rc<Term>,
     facts: &mut Vec<Rc<Term>>,
 ) -> Result<(), AllocError>
-    ensures { OnOk result ((rest : List written.Term) → terms_of facts.new.items ++ rest ≡ terms_of facts.old.items ++ (if members.is_ref (held_term t.now) then members.unlike (held_term x.now) (held_term t.now) ∷ rest else rest)) }
+    ensures { OnOk result ((rest : List written.Term) → terms_of facts.new.items ++ rest
+        ≡ terms_of facts.old.items ++ (if members.is_ref (held_term t.now) then members.unlike (held_term x.now) (held_term t.now) ∷ rest else rest)) }
 {
     if !is_ref(t)? {
         return Ok(());
@@ -69,7 +70,9 @@ fn add_unlike_value(
     t: &Rc<Term>,
     facts: &mut Vec<Rc<Term>>,
 ) -> Result<(), AllocError>
-    ensures { OnOk result ((rest : List written.Term) → terms_of facts.new.items ++ rest ≡ terms_of facts.old.items ++ ((if members.is_ref (held_term t.now) then built.implies (held_term held.now) (members.unlike (held_term x.now) (held_term t.now)) ∷ [] else []) ++ rest)) }
+    ensures { OnOk result ((rest : List written.Term) → terms_of facts.new.items ++ rest
+        ≡ terms_of facts.old.items ++ ((if members.is_ref (held_term t.now) then built.implies (held_term held.now)
+        (members.unlike (held_term x.now) (held_term t.now)) ∷ [] else []) ++ rest)) }
 {
     if !is_ref(t)? {
         return Ok(());
@@ -86,7 +89,8 @@ fn add_unlike_chunk(
     chunk: &Chunk,
     facts: &mut Vec<Rc<Term>>,
 ) -> Result<(), AllocError>
-    ensures { OnOk result ((rest : List written.Term) → terms_of facts.new.items ++ rest ≡ terms_of facts.old.items ++ (members.unlike_chunk (held_term x.now) (chunk_view chunk.now) ++ rest)) }
+    ensures { OnOk result ((rest : List written.Term) → terms_of facts.new.items ++ rest
+        ≡ terms_of facts.old.items ++ (members.unlike_chunk (held_term x.now) (chunk_view chunk.now) ++ rest)) }
 {
     let held = positive(alloc, &chunk.amount)?;
     facts.push(unlike_receiver(alloc, x, &held, chunk)?)?;
@@ -100,7 +104,8 @@ fn add_unlike_held(
     chunk: &Chunk,
     facts: &mut Vec<Rc<Term>>,
 ) -> Result<(), AllocError>
-    ensures { OnOk result ((rest : List written.Term) → terms_of facts.new.items ++ rest ≡ terms_of facts.old.items ++ (if (chunk_view chunk.now).is_field then members.unlike_chunk (held_term x.now) (chunk_view chunk.now) ++ rest else rest)) }
+    ensures { OnOk result ((rest : List written.Term) → terms_of facts.new.items ++ rest
+        ≡ terms_of facts.old.items ++ (if (chunk_view chunk.now).is_field then members.unlike_chunk (held_term x.now) (chunk_view chunk.now) ++ rest else rest)) }
 {
     match &chunk.resource {
         Resource::Field(_) => add_unlike_chunk(alloc, x, chunk, facts),
@@ -116,7 +121,8 @@ impl SymHeap {
         x: &Rc<Term>,
         facts: &mut Vec<Rc<Term>>,
     ) -> Result<(), AllocError>
-        ensures { OnOk result ((rest : List written.Term) → terms_of facts.new.items ++ rest ≡ terms_of facts.old.items ++ (members.unlike_held (held_term x.now) (heap self.now) ++ rest)) }
+        ensures { OnOk result ((rest : List written.Term) → terms_of facts.new.items ++ rest
+            ≡ terms_of facts.old.items ++ (members.unlike_held (held_term x.now) (heap self.now) ++ rest)) }
     {
         for chunk in &self.chunks {
             add_unlike_held(alloc, x, chunk, facts)?;

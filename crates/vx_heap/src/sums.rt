@@ -52,7 +52,8 @@ fn value_fact(
     value: &Rc<Term>,
     chunk: &Chunk,
 ) -> Result<Rc<Term>, AllocError>
-    ensures { IfOk result (λ t. held_term t ≡ built.implies (chunks.holds_some (held_term receiver.now ∷ []) (chunk_view chunk.now)) (built.equals (held_term value.now) (chunk_view chunk.now).value)) }
+    ensures { IfOk result (λ t. held_term t ≡ built.implies (chunks.holds_some (held_term receiver.now ∷ []) (chunk_view chunk.now))
+        (built.equals (held_term value.now) (chunk_view chunk.now).value)) }
 {
     let held = holds_some(alloc, slice::from_ref(receiver), chunk)?;
     make::implies(alloc, &held, &numbers::eq(alloc, value, &chunk.value)?)

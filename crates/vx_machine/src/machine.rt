@@ -108,7 +108,8 @@ fn is_refuted(reply: Reply) -> bool
 
 /// The stack that a predicate begins with: the side of its body, where it has one.
 fn predicate_sides(alloc: Global, program: &Settled, d: &Predicate) -> Result<Conts, AllocError>
-    ensures { IfOk result (λ c. (rs : List Reply) → walk (predicate_over (settled program.now) (rules (settled program.now)) (predicate d.now)) rs ≡ remaining (settled program.now) c.sides.items rs) }
+    ensures { IfOk result (λ c. (rs : List Reply) → walk (predicate_over (settled program.now) (rules (settled program.now)) (predicate d.now)) rs
+        ≡ remaining (settled program.now) c.sides.items rs) }
 {
     let mut conts = Conts::new(alloc);
     match &d.body {
@@ -124,7 +125,8 @@ fn predicate_sides(alloc: Global, program: &Settled, d: &Predicate) -> Result<Co
 /// The stack that a member begins with: its first side. A field has none, since there is no question, nor has a
 /// predicate without a body.
 fn first_sides(alloc: Global, program: &Settled, member: &Member) -> Result<Conts, AllocError>
-    ensures { IfOk result (λ c. (rs : List Reply) → walk (tree (settled program.now) (member_of member.now).name (member_of member.now).kind) rs ≡ remaining (settled program.now) c.sides.items rs) }
+    ensures { IfOk result (λ c. (rs : List Reply) → walk (tree (settled program.now) (member_of member.now).name (member_of member.now).kind) rs
+        ≡ remaining (settled program.now) c.sides.items rs) }
 {
     match &member.kind {
         Kind::Field(_) => Ok(Conts::new(alloc)),

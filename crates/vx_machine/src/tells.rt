@@ -52,7 +52,8 @@ fn says(alloc: Global, said: &Said, value: &Rc<Term>) -> Result<Rc<Term>, AllocE
 
 /// The fact of a side that was left.
 fn fact(alloc: Global, before: &SymState, said: &Said, left: &Left) -> Result<Rc<Term>, AllocError>
-    ensures { IfOk result (λ t. held_term t ∷ [] ≡ gathered (state_of before.now) (said_by said.now) (record { value = held_term left.now.value; state = state_of left.now.state } ∷ [])) }
+    ensures { IfOk result (λ t. held_term t ∷ [] ≡ gathered (state_of before.now) (said_by said.now)
+        (record { value = held_term left.now.value; state = state_of left.now.state } ∷ [])) }
 {
     let said = says(alloc, said, &left.value)?;
     vx_states::gathered(alloc, before, &left.state, &said)
@@ -112,7 +113,9 @@ fn quiet_side(
     e: &Rc<Expr>,
     start: SymState,
 ) -> Result<Side, AllocError>
-    ensures { IfOk result (λ side. leaves (side_tree (settled program.now) side) ≡ sides_of (settled program.now) (rules (settled program.now)) (function_of x.now.application.value.function.value) (expr e.now.value) (held_term x.now.snapshot) (state_of start)) }
+    ensures { IfOk result (λ side. leaves (side_tree (settled program.now) side)
+        ≡ sides_of (settled program.now) (rules (settled program.now)) (function_of x.now.application.value.function.value) (expr e.now.value)
+        (held_term x.now.snapshot) (state_of start)) }
 {
     program.keeps_apart();
     vx_depth::rules_read_parts_by_themselves();
@@ -184,7 +187,8 @@ pub(crate) fn tell(
     levels: u8,
     conts: &mut Conts,
 ) -> Result<Move, AllocError>
-    ensures { IfOk result (λ m. Stepped (settled program.now) (told (settled program.now) x.now.value (giving (settled program.now) hole.now.value) (state_of state)) conts.old.sides.items m conts.new.sides.items) }
+    ensures { IfOk result (λ m. Stepped (settled program.now)
+        (told (settled program.now) x.now.value (giving (settled program.now) hole.now.value) (state_of state)) conts.old.sides.items m conts.new.sides.items) }
 {
     let value = value_of(alloc, program, x)?;
     let state = with_equations(alloc, program, x, &value, state, levels)?;
@@ -202,7 +206,9 @@ fn with_equations(
     state: SymState,
     levels: u8,
 ) -> Result<SymState, AllocError>
-    ensures { IfOk result (λ s. state_of s ≡ rule.with_equations (settled program.now) (rules (settled program.now)) (function_of x.now.application.value.function.value) (values_of x.now.application.value.arguments.value) (held_term x.now.snapshot) (held_term value.now) (state_of state)) }
+    ensures { IfOk result (λ s. state_of s ≡ rule.with_equations (settled program.now) (rules (settled program.now))
+        (function_of x.now.application.value.function.value) (values_of x.now.application.value.arguments.value) (held_term x.now.snapshot)
+        (held_term value.now) (state_of state)) }
 {
     if state.level >= LEVELS {
         return Ok(state);
@@ -217,7 +223,9 @@ fn with_equations(
 /// The state in which an application's function is evaluated quietly.
 fn quiet_start(alloc: Global, x: &Applied, from: &SymState) -> Result<SymState, AllocError>
     requires { (state_of from.now).level < 3 }
-    ensures { IfOk result (λ s. (p : Program) (o : rule.Outer) → state_of s ≡ rule.quietly p o (bind (function_of x.now.application.value.function.value).parameters (values_of x.now.application.value.arguments.value)) (state_of from.now)) }
+    ensures { IfOk result (λ s. (p : Program) (o : rule.Outer)
+        → state_of s ≡ rule.quietly p o (bind (function_of x.now.application.value.function.value).parameters
+        (values_of x.now.application.value.arguments.value)) (state_of from.now)) }
 {
     let application = &x.application;
     let arguments = application.arguments.to_vec(alloc)?;
@@ -242,7 +250,9 @@ fn with_body(
     levels: u8,
 ) -> Result<SymState, AllocError>
     requires { (state_of state).level < 3 }
-    ensures { IfOk result (λ s. state_of s ≡ rule.with_body (settled program.now) (rules (settled program.now)) (function_of x.now.application.value.function.value) (values_of x.now.application.value.arguments.value) (held_term x.now.snapshot) (held_term value.now) (state_of state)) }
+    ensures { IfOk result (λ s. state_of s ≡ rule.with_body (settled program.now) (rules (settled program.now))
+        (function_of x.now.application.value.function.value) (values_of x.now.application.value.arguments.value) (held_term x.now.snapshot)
+        (held_term value.now) (state_of state)) }
 {
     let start = quiet_start(alloc, x, &state)?;
     let said = Said::Equals(value.clone()?);
@@ -261,7 +271,9 @@ fn with_promise(
     levels: u8,
 ) -> Result<SymState, AllocError>
     requires { (state_of state).level < 3 }
-    ensures { IfOk result (λ s. state_of s ≡ rule.with_promise (settled program.now) (rules (settled program.now)) (function_of x.now.application.value.function.value) (values_of x.now.application.value.arguments.value) (held_term x.now.snapshot) (held_term value.now) (state_of state)) }
+    ensures { IfOk result (λ s. state_of s ≡ rule.with_promise (settled program.now) (rules (settled program.now))
+        (function_of x.now.application.value.function.value) (values_of x.now.application.value.arguments.value) (held_term x.now.snapshot)
+        (held_term value.now) (state_of state)) }
 {
     let mut start = quiet_start(alloc, x, &state)?;
     vx_states::bind_outcome(alloc, &mut start, value.clone()?)?;
@@ -282,7 +294,9 @@ fn with_sides(
     state: SymState,
     levels: u8,
 ) -> Result<SymState, AllocError>
-    ensures { IfOk result (λ s. state_of s ≡ with_facts (gathered (state_of start) (said_by said.now) (sides_of (settled program.now) (rules (settled program.now)) (function_of x.now.application.value.function.value) (expr e.now.value) (held_term x.now.snapshot) (state_of start))) (state_of state)) }
+    ensures { IfOk result (λ s. state_of s ≡ with_facts (gathered (state_of start) (said_by said.now)
+        (sides_of (settled program.now) (rules (settled program.now)) (function_of x.now.application.value.function.value) (expr e.now.value)
+        (held_term x.now.snapshot) (state_of start))) (state_of state)) }
 {
     let before = start.copy(alloc)?;
     let side = quiet_side(alloc, program, x, e, start)?;

@@ -80,7 +80,10 @@ fn taking_precondition(
     called: Rc<Called>,
     next: &Rc<Next>,
 ) -> Result<Next, AllocError>
-    ensures { IfOk result (λ n. going (settled program.now) n ≡ (λ s. consume (settled program.now) (rules (settled program.now)) (joined_of (method_of method.now.value).place (method_of method.now.value).requires) (rule.codes CallCode CallCode) whole_amount s.heap s (executed_of (settled program.now) (Executed.Called called) (going (settled program.now) next.now.value)))) }
+    ensures { IfOk result (λ n. going (settled program.now) n
+        ≡ (λ s. consume (settled program.now) (rules (settled program.now)) (joined_of (method_of method.now.value).place (method_of method.now.value).requires)
+        (rule.codes CallCode CallCode) whole_amount s.heap s (executed_of (settled program.now) (Executed.Called called)
+        (going (settled program.now) next.now.value)))) }
 {
     let _program = program;
     let hole = Rc::new(
@@ -124,7 +127,9 @@ fn step_named(
     state: SymState,
     conts: &mut Conts,
 ) -> Result<Move, AllocError>
-    ensures { IfOk result (λ m. Stepped (settled program.now) (rule.called (settled program.now) (rules (settled program.now)) place (method_of method.now.value) (terms_of names.now) (names_of targets.now.value.items) (state_of state) (going (settled program.now) next.now.value)) conts.old.sides.items m conts.new.sides.items) }
+    ensures { IfOk result (λ m. Stepped (settled program.now)
+        (rule.called (settled program.now) (rules (settled program.now)) place (method_of method.now.value) (terms_of names.now)
+        (names_of targets.now.value.items) (state_of state) (going (settled program.now) next.now.value)) conts.old.sides.items m conts.new.sides.items) }
 {
     program.keeps_apart();
     vx_depth::rules_read_parts_by_themselves();
@@ -146,7 +151,9 @@ pub fn step_call(
     state: SymState,
     conts: &mut Conts,
 ) -> Result<Move, AllocError>
-    ensures { IfOk result (λ m. Stepped (settled program.now) (giving_all (settled program.now) (Row.Call place targets.now name.now next.now) (values arguments.now) (state_of state)) conts.old.sides.items m conts.new.sides.items) }
+    ensures { IfOk result (λ m. Stepped (settled program.now)
+        (giving_all (settled program.now) (Row.Call place targets.now name.now next.now) (values arguments.now) (state_of state)) conts.old.sides.items m
+        conts.new.sides.items) }
 {
     let Some(method) = program.method(name)? else {
         return conts.never(alloc, program, place, Code::Call, state);
@@ -177,7 +184,10 @@ pub fn way_back(
     inside: &SymState,
     next: &Rc<Next>,
 ) -> Result<Rc<Next>, AllocError>
-    ensures { IfOk result (λ n. going (settled program.now) n.value ≡ (λ s. tree.Step (going (settled program.now) next.now.value (returned (names_of called.now.targets.value.items) (drop called.now.count (terms_in (state_of inside.now).store)) called.now.caller.value (heap_of called.now.old_heap.value) s)))) }
+    ensures { IfOk result (λ n. going (settled program.now) n.value
+        ≡ (λ s. tree.Step (going (settled program.now) next.now.value
+        (returned (names_of called.now.targets.value.items) (drop called.now.count (terms_in (state_of inside.now).store)) called.now.caller.value
+        (heap_of called.now.old_heap.value) s)))) }
 {
     let _program = program;
     let values = inside.values_from(alloc, called.count)?;
@@ -200,7 +210,10 @@ pub fn step_return(
     state: SymState,
     conts: &mut Conts,
 ) -> Result<Move, AllocError>
-    ensures { IfOk result (λ m. Stepped (settled program.now) (tree.Step (going (settled program.now) next.now.value (returned (names_of way.now.targets.value.items) (terms_of way.now.values.items) way.now.caller.value (heap_of way.now.old_heap.value) (state_of state)))) conts.old.sides.items m conts.new.sides.items) }
+    ensures { IfOk result (λ m. Stepped (settled program.now)
+        (tree.Step (going (settled program.now) next.now.value
+        (returned (names_of way.now.targets.value.items) (terms_of way.now.values.items) way.now.caller.value (heap_of way.now.old_heap.value)
+        (state_of state)))) conts.old.sides.items m conts.new.sides.items) }
 {
     let mut state = state;
     state.back(alloc, &way.caller)?;

@@ -37,7 +37,9 @@ fn step_above_none(
     state: SymState,
     conts: &mut Conts,
 ) -> Result<Move, AllocError>
-    ensures { IfOk result (λ m. Stepped (settled program.now) (ask (less zero_amount (held_term amount.now)) place AmountCode (state_of state) (λ s. evals (settled program.now) (rules (settled program.now)) (exprs arguments.now.value) s (giving_all (settled program.now) row))) conts.old.sides.items m conts.new.sides.items) }
+    ensures { IfOk result (λ m. Stepped (settled program.now) (ask (less zero_amount (held_term amount.now)) place AmountCode (state_of state)
+        (λ s. evals (settled program.now) (rules (settled program.now)) (exprs arguments.now.value) s (giving_all (settled program.now) row)))
+        conts.old.sides.items m conts.new.sides.items) }
 {
     let allowed = positive(alloc, amount)?;
     let row = Rc::new(alloc, row)?;
@@ -65,7 +67,10 @@ pub fn step_fold_amount(
     state: SymState,
     conts: &mut Conts,
 ) -> Result<Move, AllocError>
-    ensures { IfOk result (λ m. Stepped (settled program.now) (ask (less zero_amount (held_term amount.now)) place AmountCode (state_of state) (λ s. evals (settled program.now) (rules (settled program.now)) (exprs arguments.now.value) s (λ ts s1. rule.folded (settled program.now) (rules (settled program.now)) place (string_bytes predicate.now.value) ts (held_term amount.now) s1 (going (settled program.now) next.now.value)))) conts.old.sides.items m conts.new.sides.items) }
+    ensures { IfOk result (λ m. Stepped (settled program.now) (ask (less zero_amount (held_term amount.now)) place AmountCode (state_of state)
+        (λ s. evals (settled program.now) (rules (settled program.now)) (exprs arguments.now.value) s
+        (λ ts s1. rule.folded (settled program.now) (rules (settled program.now)) place (string_bytes predicate.now.value) ts (held_term amount.now) s1
+        (going (settled program.now) next.now.value)))) conts.old.sides.items m conts.new.sides.items) }
 {
     let row = Row::Fold(place, predicate.clone()?, amount.clone()?, next.clone()?);
     step_above_none(alloc, program, amount, place, arguments, row, state, conts)
@@ -83,7 +88,10 @@ pub fn step_unfold_amount(
     state: SymState,
     conts: &mut Conts,
 ) -> Result<Move, AllocError>
-    ensures { IfOk result (λ m. Stepped (settled program.now) (ask (less zero_amount (held_term amount.now)) place AmountCode (state_of state) (λ s. evals (settled program.now) (rules (settled program.now)) (exprs arguments.now.value) s (λ ts s1. unfolded (settled program.now) (rules (settled program.now)) place (string_bytes predicate.now.value) ts (held_term amount.now) s1 (going (settled program.now) next.now.value)))) conts.old.sides.items m conts.new.sides.items) }
+    ensures { IfOk result (λ m. Stepped (settled program.now) (ask (less zero_amount (held_term amount.now)) place AmountCode (state_of state)
+        (λ s. evals (settled program.now) (rules (settled program.now)) (exprs arguments.now.value) s
+        (λ ts s1. unfolded (settled program.now) (rules (settled program.now)) place (string_bytes predicate.now.value) ts (held_term amount.now) s1
+        (going (settled program.now) next.now.value)))) conts.old.sides.items m conts.new.sides.items) }
 {
     let row = Row::Unfold(place, predicate.clone()?, amount.clone()?, next.clone()?);
     step_above_none(alloc, program, amount, place, arguments, row, state, conts)
@@ -98,7 +106,10 @@ fn taking_body(
     caller: Rc<Caller>,
     next: &Rc<Next>,
 ) -> Result<Next, AllocError>
-    ensures { IfOk result (λ n. going (settled program.now) n ≡ (λ s. consume (settled program.now) (rules (settled program.now)) (assertion body.now.value) (record { pure = FoldCode; permission = FoldCode; builds = true }) (held_term instance.now.value.amount) s.heap s (executed_of (settled program.now) (Executed.Folded instance.now caller) (going (settled program.now) next.now.value)))) }
+    ensures { IfOk result (λ n. going (settled program.now) n
+        ≡ (λ s. consume (settled program.now) (rules (settled program.now)) (assertion body.now.value)
+        (record { pure = FoldCode; permission = FoldCode; builds = true }) (held_term instance.now.value.amount) s.heap s
+        (executed_of (settled program.now) (Executed.Folded instance.now caller) (going (settled program.now) next.now.value)))) }
 {
     let _program = program;
     let folded = Executed::Folded(instance.clone()?, caller);
@@ -138,7 +149,13 @@ fn step_taking(
     state: SymState,
     conts: &mut Conts,
 ) -> Result<Move, AllocError>
-    ensures { IfOk result (λ m. Stepped (settled program.now) (tree.Step ((rules (settled program.now)).consume (assertion body.now.value) (record { pure = FoldCode; permission = FoldCode; builds = true }) (held_term instance.now.value.amount) (state_of state).heap (entered (bind (predicate_of d.now).parameters (values instance.now.value.arguments.value)) instance.now.value.place (state_of state)) (λ t s. tree.Step (going (settled program.now) next.now.value (with_instance (string_bytes instance.now.value.predicate.value) (values instance.now.value.arguments.value) (held_term instance.now.value.amount) t (back (state_of state) s)))))) conts.old.sides.items m conts.new.sides.items) }
+    ensures { IfOk result (λ m. Stepped (settled program.now)
+        (tree.Step ((rules (settled program.now)).consume (assertion body.now.value) (record { pure = FoldCode; permission = FoldCode; builds = true })
+        (held_term instance.now.value.amount) (state_of state).heap
+        (entered (bind (predicate_of d.now).parameters (values instance.now.value.arguments.value)) instance.now.value.place (state_of state))
+        (λ t s. tree.Step (going (settled program.now) next.now.value
+        (with_instance (string_bytes instance.now.value.predicate.value) (values instance.now.value.arguments.value) (held_term instance.now.value.amount) t
+        (back (state_of state) s)))))) conts.old.sides.items m conts.new.sides.items) }
 {
     program.keeps_apart();
     vx_depth::rules_read_parts_by_themselves();
@@ -161,7 +178,9 @@ pub fn step_fold(
     state: SymState,
     conts: &mut Conts,
 ) -> Result<Move, AllocError>
-    ensures { IfOk result (λ m. Stepped (settled program.now) (rule.folded (settled program.now) (rules (settled program.now)) place (string_bytes predicate.now.value) (values arguments.now.value) (held_term amount.now) (state_of state) (going (settled program.now) next.now.value)) conts.old.sides.items m conts.new.sides.items) }
+    ensures { IfOk result (λ m. Stepped (settled program.now)
+        (rule.folded (settled program.now) (rules (settled program.now)) place (string_bytes predicate.now.value) (values arguments.now.value)
+        (held_term amount.now) (state_of state) (going (settled program.now) next.now.value)) conts.old.sides.items m conts.new.sides.items) }
 {
     let Some(d) = program.predicate(predicate)? else {
         return conts.never(alloc, program, place, Code::Fold, state);
@@ -208,7 +227,10 @@ pub fn step_folded(
     state: SymState,
     conts: &mut Conts,
 ) -> Result<Move, AllocError>
-    ensures { IfOk result (λ m. Stepped (settled program.now) (tree.Step (going (settled program.now) next.now.value (with_instance (string_bytes instance.now.predicate.value) (values instance.now.arguments.value) (held_term instance.now.amount) (held_term snapshot) (back_to caller.now (state_of state))))) conts.old.sides.items m conts.new.sides.items) }
+    ensures { IfOk result (λ m. Stepped (settled program.now)
+        (tree.Step (going (settled program.now) next.now.value
+        (with_instance (string_bytes instance.now.predicate.value) (values instance.now.arguments.value) (held_term instance.now.amount) (held_term snapshot)
+        (back_to caller.now (state_of state))))) conts.old.sides.items m conts.new.sides.items) }
 {
     let mut state = state;
     state.back(alloc, caller)?;

@@ -47,7 +47,8 @@ pub fn make_promise(
     m: &Method,
     state: SymState,
 ) -> Result<Promise, AllocError>
-    ensures { IfOk result (λ r. producing (settled program.now) (assertion r.all.value) r.production.value (state_of r.state) (going (settled program.now) r.finish.value) ≡ rule.promise_side (settled program.now) (rules (settled program.now)) (method m.now) (state_of state)) }
+    ensures { IfOk result (λ r. producing (settled program.now) (assertion r.all.value) r.production.value (state_of r.state)
+        (going (settled program.now) r.finish.value) ≡ rule.promise_side (settled program.now) (rules (settled program.now)) (method m.now) (state_of state)) }
 {
     let _program = program;
     let state = promise_state(alloc, m, state)?;
@@ -88,7 +89,8 @@ fn body_side(
     body: &Rc<Block>,
     state: SymState,
 ) -> Result<Side, AllocError>
-    ensures { IfOk result (λ side. side_tree (settled program.now) side ≡ rule.body_side (settled program.now) (rules (settled program.now)) (method m.now) (block body.now.value) (state_of state)) }
+    ensures { IfOk result (λ side. side_tree (settled program.now) side
+        ≡ rule.body_side (settled program.now) (rules (settled program.now)) (method m.now) (block body.now.value) (state_of state)) }
 {
     let _program = program;
     let finish = Rc::new(alloc, Hole::Finish)?;
@@ -116,7 +118,10 @@ pub fn step_sides(
     state: SymState,
     conts: &mut Conts,
 ) -> Result<Move, AllocError>
-    ensures { IfOk result (λ v. Stepped (settled program.now) (tree.Fork (rule.promise_side (settled program.now) (rules (settled program.now)) (method m.now) (state_of state)) (rule.body_side (settled program.now) (rules (settled program.now)) (method m.now) (block body.now.value) (state_of state))) conts.old.sides.items v conts.new.sides.items) }
+    ensures { IfOk result (λ v. Stepped (settled program.now)
+        (tree.Fork (rule.promise_side (settled program.now) (rules (settled program.now)) (method m.now) (state_of state))
+        (rule.body_side (settled program.now) (rules (settled program.now)) (method m.now) (block body.now.value) (state_of state))) conts.old.sides.items v
+        conts.new.sides.items) }
 {
     let first = promise_side(alloc, program, m, state.copy(alloc)?)?;
     let second = body_side(alloc, program, m, body, state)?;
@@ -141,7 +146,9 @@ fn first_state(alloc: Global, m: &Method) -> Result<SymState, AllocError>
 
 /// The precondition, and then both sides.
 fn first_part(alloc: Global, program: &Settled, m: &Rc<Method>) -> Result<Rc<Next>, AllocError>
-    ensures { IfOk result (λ n. (s : State) → going (settled program.now) n.value s ≡ produce (settled program.now) (rules (settled program.now)) (joined_of (method m.now.value).place (method m.now.value).requires) whole_amount None s (rule.sides (settled program.now) (rules (settled program.now)) (method m.now.value))) }
+    ensures { IfOk result (λ n. (s : State) → going (settled program.now) n.value s
+        ≡ produce (settled program.now) (rules (settled program.now)) (joined_of (method m.now.value).place (method m.now.value).requires) whole_amount None s
+        (rule.sides (settled program.now) (rules (settled program.now)) (method m.now.value))) }
 {
     let _program = program;
     let all = joined(alloc, m.place, &m.preconditions)?;
@@ -180,7 +187,9 @@ pub fn predicate_side(
     parameters: &[Declaration],
     body: &Rc<Assertion>,
 ) -> Result<Side, AllocError>
-    ensures { IfOk result (λ side. side_tree (settled program.now) side ≡ produce (settled program.now) (rules (settled program.now)) (assertion body.now.value) whole_amount None (record (declare_all (map declaration parameters.now) rule.blank) { bounded = false }) rule.ended) }
+    ensures { IfOk result (λ side. side_tree (settled program.now) side
+        ≡ produce (settled program.now) (rules (settled program.now)) (assertion body.now.value) whole_amount None
+        (record (declare_all (map declaration parameters.now) rule.blank) { bounded = false }) rule.ended) }
 {
     let _program = program;
     let finish = Rc::new(alloc, Next::Finish)?;

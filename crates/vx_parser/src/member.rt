@@ -169,7 +169,8 @@ pub fn member<'t>(
 
 // What a member without a stop of its own gives.
 fn halting<'t>(read: Read<'t, Member>) -> Result<(Member, &'t [Token<'t>]), MemberStop<'t>>
-    ensures { (total : Answer) → Gives (λ x. (written_member x.0, tokens_in x.1.now)) read.entry total → GivesMember (λ x. (written_member x.0, tokens_in x.1.now)) result (reading.halting total) }
+    ensures { (total : Answer) → Gives (λ x. (written_member x.0, tokens_in x.1.now)) read.entry total
+        → GivesMember (λ x. (written_member x.0, tokens_in x.1.now)) result (reading.halting total) }
 {
     match read {
         Ok(whole) => Ok(whole),
@@ -359,7 +360,8 @@ fn contracted<'t>(
     returns: Vec<Declaration>,
     tokens: &'t [Token<'t>],
 ) -> Read<'t, Member>
-    ensures { Gives (λ x. (written_member x.0, tokens_in x.1.now)) result (method_behind reading.limit place (name_of name) (declarations_of parameters.items) (declarations_of returns.items) (tokens_in tokens.now)) }
+    ensures { Gives (λ x. (written_member x.0, tokens_in x.1.now)) result
+        (method_behind reading.limit place (name_of name) (declarations_of parameters.items) (declarations_of returns.items) (tokens_in tokens.now)) }
 {
     let (clauses, rest) = contract(alloc, false, tokens)?;
     let (body, rest) = body(alloc, rest)?;
@@ -374,7 +376,8 @@ fn made(
     clauses: Clauses,
     body: Option<Rc<Block>>,
 ) -> Member
-    ensures { written_member result ≡ reading.method_of place (name_of name) (declarations_of parameters.items) (declarations_of returns.items) (clauses_of clauses) (optional_block body) }
+    ensures { written_member result ≡ reading.method_of place (name_of name) (declarations_of parameters.items) (declarations_of returns.items)
+        (clauses_of clauses) (optional_block body) }
 {
     let method = Method {
         parameters,

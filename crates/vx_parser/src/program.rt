@@ -93,9 +93,11 @@ pub fn parse(alloc: Global, text: &[u8]) -> Result<Program, TextFault>
     ensures not_utf8 { length text.now ≤ 4194304 → (IsUtf8 text.now → ⊥) → result ≡ Err (faults.NotUtf8 (after first_place (unmarked (take (utf8_valid_len text.now) text.now)))) }
     // Another fault stands at the first token with which no program goes on, whose text it has as its argument, at the
     // first that nests too deep, or at one member too many; or all tokens fit, and the text goes on with none.
-    ensures refused { IfErr result (λ f. length text.now ≤ 4194304 → IsUtf8 text.now → (ts : List Tok) (e : End) → Scans first_place (unmarked text.now) ts e → IsRefusal (unmarked text.now) ts e f) }
+    ensures refused { IfErr result (λ f. length text.now ≤ 4194304 → IsUtf8 text.now → (ts : List Tok) (e : End) → Scans first_place (unmarked text.now) ts e
+        → IsRefusal (unmarked text.now) ts e f) }
     // Else the tokens of the text, and how it goes on behind them, give the answer, unless memory runs out.
-    ensures reads { length text.now ≤ 4194304 → IsUtf8 text.now → (ts : List Tok) (e : End) → Scans first_place (unmarked text.now) ts e → answers.IsAnswer (unmarked text.now) result (answers.answer ts e) }
+    ensures reads { length text.now ≤ 4194304 → IsUtf8 text.now → (ts : List Tok) (e : End) → Scans first_place (unmarked text.now) ts e
+        → answers.IsAnswer (unmarked text.now) result (answers.answer ts e) }
 {
     programs_are_spelled();
     reading_stops_at_first();
@@ -160,7 +162,8 @@ fn members<'t>(alloc: Global, tokens: &'t [Token<'t>]) -> Result<Vec<Member>, Ha
 
 // Why a text that ends so is no program, although its tokens spell one.
 fn ended(ending: Ending) -> Option<TextFault>
-    ensures { MatchOption result (answers.IsEnd (ending_of ending)) (λ f. (answers.IsEnd (ending_of ending) → ⊥) × ((bytes : List ℕ) → answers.Shows bytes f (answers.early (ending_of ending)))) }
+    ensures { MatchOption result (answers.IsEnd (ending_of ending)) (λ f. (answers.IsEnd (ending_of ending) → ⊥)
+        × ((bytes : List ℕ) → answers.Shows bytes f (answers.early (ending_of ending)))) }
 {
     match ending {
         Ending::AtEnd(_) => None,

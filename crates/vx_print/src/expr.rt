@@ -274,7 +274,8 @@ fn put_next(out: &mut String, e: &Expr) -> Result<(), AllocError>
 /// Writes an instance with its amount.
 #[tactic(auto, using(crate::proofs::Behind::behind_append))]
 pub fn put_instance(out: &mut String, i: &Instance) -> Result<(), AllocError>
-    ensures { OnOk result (string_bytes out.new ≡ behind (string_bytes out.old) (canonical.instance_tokens (name_of i.now.predicate).name (written_all (vec_items i.now.arguments)) (written_optional i.now.amount))) }
+    ensures { OnOk result (string_bytes out.new ≡ behind (string_bytes out.old)
+        (canonical.instance_tokens (name_of i.now.predicate).name (written_all (vec_items i.now.arguments)) (written_optional i.now.amount))) }
 {
     put_front(out, &i.amount)?;
     put_applied(out, &i.predicate.text, &i.arguments)?;

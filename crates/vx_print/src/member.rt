@@ -171,7 +171,8 @@ fn first_word(kind: &MemberKind) -> Word
 // A member without its line feed.
 #[tactic(auto, using(crate::proofs::Behind::behind_front))]
 fn put_tokens(out: &mut String, m: &Member) -> Result<(), AllocError>
-    ensures { OnOk result (string_bytes out.new ≡ string_bytes out.old ++ behind (word_text (canonical.member_word (written_kind m.now.kind))) (canonical.member_rest (name_of m.now.name).name (written_kind m.now.kind))) }
+    ensures { OnOk result (string_bytes out.new ≡ string_bytes out.old ++ behind (word_text (canonical.member_word (written_kind m.now.kind)))
+        (canonical.member_rest (name_of m.now.name).name (written_kind m.now.kind))) }
 {
     out.push_str(word_text(first_word(&m.kind)))?;
     put_rest(out, &m.name, &m.kind)?;

@@ -20,11 +20,10 @@ use std::alloc::{AllocError, Global};
 use std::rc::Rc;
 use vx_ast::Place;
 use vx_heap::{Candidate, Resource, SymHeap};
-use vx_states::mark_root;
 use vx_resolved::Settled;
 use vx_rules::Code;
 use vx_stack::{Applied, Conts, Frame, Hole, Move, Next, Search, Side, Values, Verified};
-use vx_states::{Caller, SymState};
+use vx_states::{Caller, SymState, mark_root};
 
 /// The side of what an application tells.
 fn telling(
@@ -48,7 +47,8 @@ fn measuring_on(
     x: &Rc<Applied>,
     hole: &Rc<Hole>,
 ) -> Result<Next, AllocError>
-    ensures { (p : Program) (s : State) → IfOk result (λ rest. going p rest s ≡ finding search.now.value number s (λ c. told p x.now.value (giving p hole.now.value) s) (rule.never search.now.value.place (code_of search.now.value.code) s)) }
+    ensures { (p : Program) (s : State) → IfOk result (λ rest. going p rest s ≡ finding search.now.value number s
+        (λ c. told p x.now.value (giving p hole.now.value) s) (rule.never search.now.value.place (code_of search.now.value.code) s)) }
 {
     Ok(Next::MeasureFrom(search.clone()?, number, x.clone()?, hole.clone()?))
 }
@@ -64,7 +64,9 @@ pub fn measure_from(
     state: SymState,
     conts: &mut Conts,
 ) -> Result<Move, AllocError>
-    ensures { IfOk result (λ m. Stepped (settled program.now) (finding search.now.value number (state_of state) (λ c. told (settled program.now) x.now.value (giving (settled program.now) hole.now.value) (state_of state)) (rule.never search.now.value.place (code_of search.now.value.code) (state_of state))) conts.old.sides.items m conts.new.sides.items) }
+    ensures { IfOk result (λ m. Stepped (settled program.now) (finding search.now.value number (state_of state)
+        (λ c. told (settled program.now) x.now.value (giving (settled program.now) hole.now.value) (state_of state))
+        (rule.never search.now.value.place (code_of search.now.value.code) (state_of state))) conts.old.sides.items m conts.new.sides.items) }
 {
     match search.candidates.get(number) {
         None => conts.never(alloc, program, search.place, search.code, state),
@@ -101,7 +103,9 @@ pub fn root_from(
     state: SymState,
     conts: &mut Conts,
 ) -> Result<Move, AllocError>
-    ensures { IfOk result (λ m. Stepped (settled program.now) (finding search.now.value number (state_of state) (λ c. verified_body (settled program.now) v.now.value None (rooted c (state_of state))) (rule.never search.now.value.place (code_of search.now.value.code) (state_of state))) conts.old.sides.items m conts.new.sides.items) }
+    ensures { IfOk result (λ m. Stepped (settled program.now) (finding search.now.value number (state_of state)
+        (λ c. verified_body (settled program.now) v.now.value None (rooted c (state_of state)))
+        (rule.never search.now.value.place (code_of search.now.value.code) (state_of state))) conts.old.sides.items m conts.new.sides.items) }
 {
     match search.candidates.get(number) {
         None => conts.never(alloc, program, search.place, search.code, state),
@@ -176,7 +180,9 @@ fn seek_inner(
     state: SymState,
     conts: &mut Conts,
 ) -> Result<Move, AllocError>
-    ensures { IfOk result (λ m. Stepped (settled program.now) (measured_by (settled program.now) x.now.value (string_bytes predicate.now.value) (values arguments.now) (state_of state) (giving (settled program.now) hole.now.value)) conts.old.sides.items m conts.new.sides.items) }
+    ensures { IfOk result (λ m. Stepped (settled program.now)
+        (measured_by (settled program.now) x.now.value (string_bytes predicate.now.value) (values arguments.now) (state_of state)
+        (giving (settled program.now) hole.now.value)) conts.old.sides.items m conts.new.sides.items) }
 {
     let place = x.application.place;
     let among = inner_of(alloc, predicate, arguments, &state.heap)?;
@@ -195,7 +201,9 @@ pub fn seek_root(
     state: SymState,
     conts: &mut Conts,
 ) -> Result<Move, AllocError>
-    ensures { IfOk result (λ m. Stepped (settled program.now) (rooted_at (settled program.now) v.now.value place (string_bytes predicate.now.value) (values arguments.now) (state_of state)) conts.old.sides.items m conts.new.sides.items) }
+    ensures { IfOk result (λ m. Stepped (settled program.now)
+        (rooted_at (settled program.now) v.now.value place (string_bytes predicate.now.value) (values arguments.now) (state_of state)) conts.old.sides.items m
+        conts.new.sides.items) }
 {
     let among = all_of(alloc, predicate, arguments, &state.heap)?;
     let wanted = search_among(alloc, place, arguments, among)?;
@@ -214,7 +222,9 @@ pub fn step_measured_by(
     state: SymState,
     conts: &mut Conts,
 ) -> Result<Move, AllocError>
-    ensures { IfOk result (λ v. Stepped (settled program.now) (measured_by (settled program.now) x.now.value (string_bytes predicate.now.value) (values arguments.now) (back_to caller.now (state_of state)) (giving (settled program.now) hole.now.value)) conts.old.sides.items v conts.new.sides.items) }
+    ensures { IfOk result (λ v. Stepped (settled program.now)
+        (measured_by (settled program.now) x.now.value (string_bytes predicate.now.value) (values arguments.now) (back_to caller.now (state_of state))
+        (giving (settled program.now) hole.now.value)) conts.old.sides.items v conts.new.sides.items) }
 {
     let mut state = state;
     state.back(alloc, caller)?;

@@ -32,7 +32,9 @@ pub(crate) fn probe_one(
     state: SymState,
     conts: &mut Conts,
 ) -> Result<Move, AllocError>
-    ensures { IfOk result (λ m. Stepped (settled program.now) (rule.probe (wanted search.now (candidate of.now).chunk) search.now.place (code_of search.now.code) (state_of state) (side_tree (settled program.now) found) (going (settled program.now) rest (state_of state))) conts.old.sides.items m conts.new.sides.items) }
+    ensures { IfOk result (λ m. Stepped (settled program.now)
+        (rule.probe (wanted search.now (candidate of.now).chunk) search.now.place (code_of search.now.code) (state_of state)
+        (side_tree (settled program.now) found) (going (settled program.now) rest (state_of state))) conts.old.sides.items m conts.new.sides.items) }
 {
     let condition = search.condition(alloc, &of.chunk)?;
     let frame = Frame::Go(Rc::new(alloc, rest)?);
@@ -72,7 +74,9 @@ pub fn read_from(
     state: SymState,
     conts: &mut Conts,
 ) -> Result<Move, AllocError>
-    ensures { IfOk result (λ m. Stepped (settled program.now) (finding search.now.value number (state_of state) (λ c. giving (settled program.now) hole.now.value c.chunk.value (state_of state)) (rule.never search.now.value.place (code_of search.now.value.code) (state_of state))) conts.old.sides.items m conts.new.sides.items) }
+    ensures { IfOk result (λ m. Stepped (settled program.now) (finding search.now.value number (state_of state)
+        (λ c. giving (settled program.now) hole.now.value c.chunk.value (state_of state))
+        (rule.never search.now.value.place (code_of search.now.value.code) (state_of state))) conts.old.sides.items m conts.new.sides.items) }
 {
     match search.candidates.get(number) {
         None => conts.never(alloc, program, search.place, search.code, state),
@@ -95,7 +99,9 @@ fn take_none(
     state: SymState,
     conts: &mut Conts,
 ) -> Result<Move, AllocError>
-    ensures { IfOk result (λ m. Stepped (settled program.now) (taking_none (held_term amount.now) (sort_of of.now) search.now.place (code_of search.now.code) (state_of state) (λ v s. with_taken (settled program.now) after.now.value v false s)) conts.old.sides.items m conts.new.sides.items) }
+    ensures { IfOk result (λ m. Stepped (settled program.now)
+        (taking_none (held_term amount.now) (sort_of of.now) search.now.place (code_of search.now.code) (state_of state)
+        (λ v s. with_taken (settled program.now) after.now.value v false s)) conts.old.sides.items m conts.new.sides.items) }
 {
     if state.is_quiet() {
         return Ok(Move::End);
@@ -122,7 +128,8 @@ fn leads_inside(chunk: &Chunk) -> bool
 
 /// What a side does next whose chunk was taken.
 fn after_taken(alloc: Global, chunk: &Chunk, after: &Taken) -> Result<Frame, AllocError>
-    ensures { IfOk result (λ frame. (p : Program) (s : State) → frame_tree p frame s ≡ with_taken p after.now (chunk_view chunk.now).value (rule.leads_inside (chunk_view chunk.now)) s) }
+    ensures { IfOk result (λ frame. (p : Program) (s : State)
+        → frame_tree p frame s ≡ with_taken p after.now (chunk_view chunk.now).value (rule.leads_inside (chunk_view chunk.now)) s) }
 {
     let value = chunk.value.clone()?;
     match after {
@@ -142,7 +149,9 @@ fn taken(
     after: &Rc<Taken>,
     state: &SymState,
 ) -> Result<Side, AllocError>
-    ensures { IfOk result (λ side. (p : Program) → side_tree p side ≡ with_taken p after.now.value (candidate from.now).chunk.value (rule.leads_inside (candidate from.now).chunk) (states.with_heap (reduced (candidate from.now) (held_term amount.now) (state_of state.now).heap) (state_of state.now))) }
+    ensures { IfOk result (λ side. (p : Program) → side_tree p side
+        ≡ with_taken p after.now.value (candidate from.now).chunk.value (rule.leads_inside (candidate from.now).chunk)
+        (states.with_heap (reduced (candidate from.now) (held_term amount.now) (state_of state.now).heap) (state_of state.now))) }
 {
     let mut state = state.copy(alloc)?;
     state.take(alloc, from, amount)?;
@@ -158,7 +167,10 @@ fn taking_on(
     of: &Sort,
     after: &Rc<Taken>,
 ) -> Result<Next, AllocError>
-    ensures { (p : Program) (s : State) → IfOk result (λ rest. going p rest s ≡ finding search.now.value number s (λ c. with_taken p after.now.value c.chunk.value (rule.leads_inside c.chunk) (states.with_heap (reduced c (held_term amount.now) s.heap) s)) (taking_none (held_term amount.now) (sort_of of.now) search.now.value.place (code_of search.now.value.code) s (λ v s1. with_taken p after.now.value v false s1))) }
+    ensures { (p : Program) (s : State) → IfOk result (λ rest. going p rest s ≡ finding search.now.value number s
+        (λ c. with_taken p after.now.value c.chunk.value (rule.leads_inside c.chunk) (states.with_heap (reduced c (held_term amount.now) s.heap) s))
+        (taking_none (held_term amount.now) (sort_of of.now) search.now.value.place (code_of search.now.value.code) s
+        (λ v s1. with_taken p after.now.value v false s1))) }
 {
     Ok(Next::TakeFrom(
         search.clone()?,
@@ -181,7 +193,11 @@ pub fn take_from(
     state: SymState,
     conts: &mut Conts,
 ) -> Result<Move, AllocError>
-    ensures { IfOk result (λ m. Stepped (settled program.now) (finding search.now.value number (state_of state) (λ c. with_taken (settled program.now) after.now.value c.chunk.value (rule.leads_inside c.chunk) (states.with_heap (reduced c (held_term amount.now) (state_of state).heap) (state_of state))) (taking_none (held_term amount.now) (sort_of of.now) search.now.value.place (code_of search.now.value.code) (state_of state) (λ v s. with_taken (settled program.now) after.now.value v false s))) conts.old.sides.items m conts.new.sides.items) }
+    ensures { IfOk result (λ m. Stepped (settled program.now) (finding search.now.value number (state_of state)
+        (λ c. with_taken (settled program.now) after.now.value c.chunk.value (rule.leads_inside c.chunk)
+        (states.with_heap (reduced c (held_term amount.now) (state_of state).heap) (state_of state)))
+        (taking_none (held_term amount.now) (sort_of of.now) search.now.value.place (code_of search.now.value.code) (state_of state)
+        (λ v s. with_taken (settled program.now) after.now.value v false s))) conts.old.sides.items m conts.new.sides.items) }
 {
     match search.candidates.get(number) {
         None => take_none(alloc, program, search, amount, of, after, state, conts),

@@ -67,7 +67,8 @@ fn search_field(
     ensures code { IfOk result (λ s. code_of s.value.code ≡ PermissionCode) }
     ensures arguments { IfOk result (λ s. terms_of s.value.arguments.items ≡ held_term receiver ∷ []) }
     ensures amount { IfOk result (λ s. optional_term s.value.amount ≡ None) }
-    ensures candidates { IfOk result (λ s. candidates_of s.value.candidates.items ≡ chunks.candidates (field_key (string_bytes field.now.value) (held_term receiver)) (heap_of heap.now)) }
+    ensures candidates { IfOk result (λ s. candidates_of s.value.candidates.items
+        ≡ chunks.candidates (field_key (string_bytes field.now.value) (held_term receiver)) (heap_of heap.now)) }
 {
     let mut arguments = Vec::new(alloc);
     arguments.push(receiver)?;
@@ -94,7 +95,9 @@ fn probe_field(
     state: SymState,
     conts: &mut Conts,
 ) -> Result<Move, AllocError>
-    ensures { IfOk result (λ m. Stepped (settled program.now) (read_first (string_bytes field.now.value) (held_term receiver) place (state_of state) (giving (settled program.now) hole.now.value)) conts.old.sides.items m conts.new.sides.items) }
+    ensures { IfOk result (λ m. Stepped (settled program.now)
+        (read_first (string_bytes field.now.value) (held_term receiver) place (state_of state) (giving (settled program.now) hole.now.value))
+        conts.old.sides.items m conts.new.sides.items) }
 {
     let wanted = search_field(alloc, place, field, receiver, &state.heap)?;
     read_from(alloc, program, &wanted, 0, hole, state, conts)
@@ -111,7 +114,9 @@ pub fn read_field(
     state: SymState,
     conts: &mut Conts,
 ) -> Result<Move, AllocError>
-    ensures { IfOk result (λ m. Stepped (settled program.now) (rule.read_field (string_bytes field.now.value) (held_term receiver) (rule.field_sort (settled program.now) (string_bytes field.now.value)) place (state_of state) (giving (settled program.now) hole.now.value)) conts.old.sides.items m conts.new.sides.items) }
+    ensures { IfOk result (λ m. Stepped (settled program.now)
+        (rule.read_field (string_bytes field.now.value) (held_term receiver) (rule.field_sort (settled program.now) (string_bytes field.now.value)) place
+        (state_of state) (giving (settled program.now) hole.now.value)) conts.old.sides.items m conts.new.sides.items) }
 {
     if state.is_quiet() {
         probe_field(alloc, program, place, field, receiver, hole, state, conts)
@@ -134,7 +139,9 @@ fn take(
     state: SymState,
     conts: &mut Conts,
 ) -> Result<Move, AllocError>
-    ensures { IfOk result (λ m. Stepped (settled program.now) (take_first (key resource.now arguments.items) (held_term amount.now) (sort_of of.now) place (code_of code) (state_of state) (λ k s. with_taken (settled program.now) after k.value (rule.leads_inside k) s)) conts.old.sides.items m conts.new.sides.items) }
+    ensures { IfOk result (λ m. Stepped (settled program.now)
+        (take_first (key resource.now arguments.items) (held_term amount.now) (sort_of of.now) place (code_of code) (state_of state)
+        (λ k s. with_taken (settled program.now) after k.value (rule.leads_inside k) s)) conts.old.sides.items m conts.new.sides.items) }
 {
     let all = Some(amount.clone()?);
     let wanted = search(alloc, place, code, resource, arguments, all, &state.heap)?;
@@ -153,7 +160,10 @@ fn probe_location(
     state: SymState,
     conts: &mut Conts,
 ) -> Result<Move, AllocError>
-    ensures { IfOk result (λ m. Stepped (settled program.now) (take_first (field_key (string_bytes location.now.field.value) (held_term location.now.receiver)) (held_term location.now.amount) (rule.field_sort (settled program.now) (string_bytes location.now.field.value)) place (code_of code) (state_of state) (λ k s. giving (settled program.now) hole.now.value k.value s)) conts.old.sides.items m conts.new.sides.items) }
+    ensures { IfOk result (λ m. Stepped (settled program.now)
+        (take_first (field_key (string_bytes location.now.field.value) (held_term location.now.receiver)) (held_term location.now.amount)
+        (rule.field_sort (settled program.now) (string_bytes location.now.field.value)) place (code_of code) (state_of state)
+        (λ k s. giving (settled program.now) hole.now.value k.value s)) conts.old.sides.items m conts.new.sides.items) }
 {
     let mut arguments = Vec::new(alloc);
     arguments.push(location.receiver.clone()?)?;
@@ -186,7 +196,10 @@ pub fn take_location(
     state: SymState,
     conts: &mut Conts,
 ) -> Result<Move, AllocError>
-    ensures { IfOk result (λ m. Stepped (settled program.now) (taking_location (settled program.now) location.now.value.place (string_bytes location.now.value.field.value) (held_term location.now.value.receiver) (held_term location.now.value.amount) (code_of code) (heap_of heap.now.value) (state_of state) (giving (settled program.now) hole.now.value)) conts.old.sides.items m conts.new.sides.items) }
+    ensures { IfOk result (λ m. Stepped (settled program.now)
+        (taking_location (settled program.now) location.now.value.place (string_bytes location.now.value.field.value) (held_term location.now.value.receiver)
+        (held_term location.now.value.amount) (code_of code) (heap_of heap.now.value) (state_of state) (giving (settled program.now) hole.now.value))
+        conts.old.sides.items m conts.new.sides.items) }
 {
     let place = state.placed(location.place);
     let mut state = state;
@@ -209,7 +222,10 @@ pub fn take_instance(
     state: SymState,
     conts: &mut Conts,
 ) -> Result<Move, AllocError>
-    ensures { IfOk result (λ m. Stepped (settled program.now) (taking_instance (settled program.now) instance.now.place (string_bytes instance.now.predicate.value) (values instance.now.arguments.value) (held_term instance.now.amount) (code_of code) (heap_of heap.now.value) (state_of state) (giving (settled program.now) hole.now.value)) conts.old.sides.items m conts.new.sides.items) }
+    ensures { IfOk result (λ m. Stepped (settled program.now)
+        (taking_instance (settled program.now) instance.now.place (string_bytes instance.now.predicate.value) (values instance.now.arguments.value)
+        (held_term instance.now.amount) (code_of code) (heap_of heap.now.value) (state_of state) (giving (settled program.now) hole.now.value))
+        conts.old.sides.items m conts.new.sides.items) }
 {
     let place = state.placed(instance.place);
     let mut state = state;
@@ -241,7 +257,10 @@ pub fn unfold(
     state: SymState,
     conts: &mut Conts,
 ) -> Result<Move, AllocError>
-    ensures { IfOk result (λ m. Stepped (settled program.now) (rule.unfolded (settled program.now) (rules (settled program.now)) instance.value.place (string_bytes instance.value.predicate.value) (values instance.value.arguments.value) (held_term instance.value.amount) (state_of state) (going (settled program.now) next.now.value)) conts.old.sides.items m conts.new.sides.items) }
+    ensures { IfOk result (λ m. Stepped (settled program.now)
+        (rule.unfolded (settled program.now) (rules (settled program.now)) instance.value.place (string_bytes instance.value.predicate.value)
+        (values instance.value.arguments.value) (held_term instance.value.amount) (state_of state) (going (settled program.now) next.now.value))
+        conts.old.sides.items m conts.new.sides.items) }
 {
     let place = instance.place;
     let arguments = instance.arguments.to_vec(alloc)?;

@@ -37,7 +37,10 @@ fn put_frame(
     is_inner: bool,
     next: &Rc<Next>,
 ) -> Result<Frame, AllocError>
-    ensures { IfOk result (λ f. frame_tree (settled program.now) f ≡ (λ s. tree.Step (going (settled program.now) next.now.value (with_held (settled program.now) (string_bytes instance.predicate.value) (values instance.arguments.value) (held_term instance.amount) (optional_term x.now.value.snapshot) is_inner s)))) }
+    ensures { IfOk result (λ f. frame_tree (settled program.now) f
+        ≡ (λ s. tree.Step (going (settled program.now) next.now.value
+        (with_held (settled program.now) (string_bytes instance.predicate.value) (values instance.arguments.value) (held_term instance.amount)
+        (optional_term x.now.value.snapshot) is_inner s)))) }
 {
     let _program = program;
     let instance = Rc::new(alloc, instance)?;
@@ -59,7 +62,10 @@ pub fn step_held(
     state: SymState,
     conts: &mut Conts,
 ) -> Result<Move, AllocError>
-    ensures { IfOk result (λ m. Stepped (settled program.now) (putting_instance (settled program.now) place (string_bytes predicate.now.value) (values arguments.now.value) (multiply (held_term x.now.value.scale) (held_term share.now)) (optional_term x.now.value.snapshot) is_inner (state_of state) (going (settled program.now) next.now.value)) conts.old.sides.items m conts.new.sides.items) }
+    ensures { IfOk result (λ m. Stepped (settled program.now)
+        (putting_instance (settled program.now) place (string_bytes predicate.now.value) (values arguments.now.value)
+        (multiply (held_term x.now.value.scale) (held_term share.now)) (optional_term x.now.value.snapshot) is_inner (state_of state)
+        (going (settled program.now) next.now.value)) conts.old.sides.items m conts.new.sides.items) }
 {
     let amount = scaled(alloc, x, share)?;
     let allowed = not_negative(alloc, &amount)?;
@@ -85,7 +91,10 @@ pub fn step_put_instance(
     state: SymState,
     conts: &mut Conts,
 ) -> Result<Move, AllocError>
-    ensures { IfOk result (λ m. Stepped (settled program.now) (tree.Step (going (settled program.now) next.now.value (with_held (settled program.now) (string_bytes instance.now.predicate.value) (values instance.now.arguments.value) (held_term instance.now.amount) (optional_term x.now.snapshot) is_inner (state_of state)))) conts.old.sides.items m conts.new.sides.items) }
+    ensures { IfOk result (λ m. Stepped (settled program.now)
+        (tree.Step (going (settled program.now) next.now.value
+        (with_held (settled program.now) (string_bytes instance.now.predicate.value) (values instance.now.arguments.value) (held_term instance.now.amount)
+        (optional_term x.now.snapshot) is_inner (state_of state)))) conts.old.sides.items m conts.new.sides.items) }
 {
     let mut state = state;
     let snapshot = state.produced_snapshot(alloc, &x.snapshot)?;
@@ -102,7 +111,8 @@ fn within(
     is_inner: bool,
     state: SymState,
 ) -> Result<SymState, AllocError>
-    ensures { IfOk result (λ s. state_of s ≡ record (rule.entered (states.bind (predicate d.now).parameters (values instance.now.arguments.value)) instance.now.place (state_of state)) { inner = is_inner }) }
+    ensures { IfOk result (λ s. state_of s ≡ record (rule.entered
+        (states.bind (predicate d.now).parameters (values instance.now.arguments.value)) instance.now.place (state_of state)) { inner = is_inner }) }
 {
     let arguments = instance.arguments.to_vec(alloc)?;
     let mut state = state;
@@ -149,7 +159,10 @@ fn step_exchanged(
     state: SymState,
     conts: &mut Conts,
 ) -> Result<Move, AllocError>
-    ensures { IfOk result (λ m. Stepped (settled program.now) ((rules (settled program.now)).produce (assertion body.now) (held_term instance.now.amount) (Some (held_term snapshot.now)) (record (rule.entered (states.bind (predicate d.now).parameters (values instance.now.arguments.value)) instance.now.place (state_of state)) { inner = is_inner }) (λ s. going (settled program.now) next.now.value (rule.back (state_of state) s))) conts.old.sides.items m conts.new.sides.items) }
+    ensures { IfOk result (λ m. Stepped (settled program.now)
+        ((rules (settled program.now)).produce (assertion body.now) (held_term instance.now.amount) (Some (held_term snapshot.now))
+        (record (rule.entered (states.bind (predicate d.now).parameters (values instance.now.arguments.value)) instance.now.place (state_of state))
+        { inner = is_inner }) (λ s. going (settled program.now) next.now.value (rule.back (state_of state) s))) conts.old.sides.items m conts.new.sides.items) }
 {
     program.keeps_apart();
     vx_depth::rules_read_parts_by_themselves();
@@ -170,7 +183,9 @@ pub fn step_body(
     state: SymState,
     conts: &mut Conts,
 ) -> Result<Move, AllocError>
-    ensures { IfOk result (λ m. Stepped (settled program.now) (body_of (settled program.now) instance.now.value (held_term snapshot.now) is_inner (state_of state) (going (settled program.now) next.now.value)) conts.old.sides.items m conts.new.sides.items) }
+    ensures { IfOk result (λ m. Stepped (settled program.now)
+        (body_of (settled program.now) instance.now.value (held_term snapshot.now) is_inner (state_of state) (going (settled program.now) next.now.value))
+        conts.old.sides.items m conts.new.sides.items) }
 {
     let Some(d) = program.predicate(&instance.predicate)? else {
         return conts.never(alloc, program, instance.place, Code::Unfold, state);

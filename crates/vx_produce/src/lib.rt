@@ -63,7 +63,10 @@ fn parts(
     x: &Production,
     next: &Rc<Next>,
 ) -> Result<Next, AllocError>
-    ensures { IfOk result (λ n. going (settled program.now) n ≡ (λ s. rule.produce (settled program.now) (rules (settled program.now)) (assertion left.now.value) (held_term x.now.scale) (rule.left_part (optional_term x.now.snapshot)) s (λ s1. rule.produce (settled program.now) (rules (settled program.now)) (assertion right.now.value) (held_term x.now.scale) (rule.right_part (optional_term x.now.snapshot)) s1 (going (settled program.now) next.now.value)))) }
+    ensures { IfOk result (λ n. going (settled program.now) n
+        ≡ (λ s. rule.produce (settled program.now) (rules (settled program.now)) (assertion left.now.value) (held_term x.now.scale)
+        (rule.left_part (optional_term x.now.snapshot)) s (λ s1. rule.produce (settled program.now) (rules (settled program.now)) (assertion right.now.value)
+        (held_term x.now.scale) (rule.right_part (optional_term x.now.snapshot)) s1 (going (settled program.now) next.now.value)))) }
 {
     let _program = program;
     let later = of_right(alloc, x)?;
@@ -83,7 +86,9 @@ fn step_both(
     state: SymState,
     conts: &mut Conts,
 ) -> Result<Move, AllocError>
-    ensures { IfOk result (λ m. Stepped (settled program.now) (producing (settled program.now) (syntax.Both (assertion left.now.value) (assertion right.now.value)) x.now (state_of state) (going (settled program.now) next.now.value)) conts.old.sides.items m conts.new.sides.items) }
+    ensures { IfOk result (λ m. Stepped (settled program.now)
+        (producing (settled program.now) (syntax.Both (assertion left.now.value) (assertion right.now.value)) x.now (state_of state)
+        (going (settled program.now) next.now.value)) conts.old.sides.items m conts.new.sides.items) }
 {
     let mut state = state;
     state.add_split(alloc, &x.snapshot)?;
@@ -101,7 +106,9 @@ pub fn step(
     state: SymState,
     conts: &mut Conts,
 ) -> Result<Move, AllocError>
-    ensures { IfOk result (λ m. Stepped (settled program.now) (producing (settled program.now) (assertion a.now) x.now.value (state_of state) (going (settled program.now) next.now.value)) conts.old.sides.items m conts.new.sides.items) }
+    ensures { IfOk result (λ m. Stepped (settled program.now)
+        (producing (settled program.now) (assertion a.now) x.now.value (state_of state) (going (settled program.now) next.now.value)) conts.old.sides.items m
+        conts.new.sides.items) }
 {
     match a {
         Assertion::Pure(e) => {
@@ -140,7 +147,9 @@ fn step_fact(
     state: SymState,
     conts: &mut Conts,
 ) -> Result<Move, AllocError>
-    ensures { IfOk result (λ m. Stepped (settled program.now) (tree.Step (going (settled program.now) next.now.value (rule.with_unit (optional_term snapshot.now) (with_fact (held_term value) (state_of state))))) conts.old.sides.items m conts.new.sides.items) }
+    ensures { IfOk result (λ m. Stepped (settled program.now)
+        (tree.Step (going (settled program.now) next.now.value (rule.with_unit (optional_term snapshot.now) (with_fact (held_term value) (state_of state)))))
+        conts.old.sides.items m conts.new.sides.items) }
 {
     let mut state = state;
     state.add_fact(alloc, value)?;
@@ -159,7 +168,9 @@ pub fn step_produced(
     conts: &mut Conts,
 ) -> Result<Move, AllocError>
     requires { is_evaluated produced.now ≡ true }
-    ensures { IfOk result (λ m. Stepped (settled program.now) (produced_of (settled program.now) produced.now (going (settled program.now) next.now.value) (held_term value) (state_of state)) conts.old.sides.items m conts.new.sides.items) }
+    ensures { IfOk result (λ m. Stepped (settled program.now)
+        (produced_of (settled program.now) produced.now (going (settled program.now) next.now.value) (held_term value) (state_of state)) conts.old.sides.items m
+        conts.new.sides.items) }
 {
     match produced {
         Produced::Fact(snapshot) => step_fact(alloc, program, value, snapshot, next, state, conts),

@@ -36,7 +36,10 @@ fn put_frame(
     is_inner: bool,
     next: &Rc<Next>,
 ) -> Result<Frame, AllocError>
-    ensures { IfOk result (λ f. frame_tree (settled program.now) f ≡ (λ s. tree.Step (going (settled program.now) next.now.value (with_location (settled program.now) (string_bytes location.field.value) (held_term location.receiver) (held_term location.amount) (optional_term x.now.value.snapshot) is_inner s)))) }
+    ensures { IfOk result (λ f. frame_tree (settled program.now) f
+        ≡ (λ s. tree.Step (going (settled program.now) next.now.value
+        (with_location (settled program.now) (string_bytes location.field.value) (held_term location.receiver) (held_term location.amount)
+        (optional_term x.now.value.snapshot) is_inner s)))) }
 {
     let _program = program;
     let location = Rc::new(alloc, location)?;
@@ -58,7 +61,10 @@ pub fn step_amount(
     state: SymState,
     conts: &mut Conts,
 ) -> Result<Move, AllocError>
-    ensures { IfOk result (λ m. Stepped (settled program.now) (putting (settled program.now) place (string_bytes field.now.value) (held_term receiver.now) (multiply (held_term x.now.value.scale) (held_term share.now)) (optional_term x.now.value.snapshot) is_inner (state_of state) (going (settled program.now) next.now.value)) conts.old.sides.items m conts.new.sides.items) }
+    ensures { IfOk result (λ m. Stepped (settled program.now)
+        (putting (settled program.now) place (string_bytes field.now.value) (held_term receiver.now)
+        (multiply (held_term x.now.value.scale) (held_term share.now)) (optional_term x.now.value.snapshot) is_inner (state_of state)
+        (going (settled program.now) next.now.value)) conts.old.sides.items m conts.new.sides.items) }
 {
     let amount = scaled(alloc, x, share)?;
     let allowed = not_negative(alloc, &amount)?;
@@ -80,7 +86,8 @@ fn chunk_of(
     value: Rc<Term>,
     is_inner: bool,
 ) -> Result<Chunk, AllocError>
-    ensures { IfOk result (λ c. chunk_view c ≡ record (field_key (string_bytes location.now.field.value) (held_term location.now.receiver)) { amount = held_term location.now.amount; value = held_term value; inner = is_inner }) }
+    ensures { IfOk result (λ c. chunk_view c ≡ record (field_key (string_bytes location.now.field.value) (held_term location.now.receiver))
+        { amount = held_term location.now.amount; value = held_term value; inner = is_inner }) }
 {
     let mut arguments = Vec::new(alloc);
     arguments.push(location.receiver.clone()?)?;
@@ -105,7 +112,10 @@ pub fn step_put(
     state: SymState,
     conts: &mut Conts,
 ) -> Result<Move, AllocError>
-    ensures { IfOk result (λ m. Stepped (settled program.now) (tree.Step (going (settled program.now) next.now.value (with_location (settled program.now) (string_bytes location.now.field.value) (held_term location.now.receiver) (held_term location.now.amount) (optional_term x.now.snapshot) is_inner (state_of state)))) conts.old.sides.items m conts.new.sides.items) }
+    ensures { IfOk result (λ m. Stepped (settled program.now)
+        (tree.Step (going (settled program.now) next.now.value
+        (with_location (settled program.now) (string_bytes location.now.field.value) (held_term location.now.receiver) (held_term location.now.amount)
+        (optional_term x.now.snapshot) is_inner (state_of state)))) conts.old.sides.items m conts.new.sides.items) }
 {
     let mut state = state;
     let of = field_sort(program, &location.field);

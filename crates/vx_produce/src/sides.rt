@@ -26,7 +26,8 @@ fn frame_of(
     x: &Rc<Production>,
     next: &Rc<Next>,
 ) -> Result<Frame, AllocError>
-    ensures { IfOk result (λ f. frame_tree (settled program.now) f ≡ (λ s. producing (settled program.now) (assertion a.now.value) x.now.value s (going (settled program.now) next.now.value))) }
+    ensures { IfOk result (λ f. frame_tree (settled program.now) f
+        ≡ (λ s. producing (settled program.now) (assertion a.now.value) x.now.value s (going (settled program.now) next.now.value))) }
 {
     let _program = program;
     let produce = Next::Produce(a.clone()?, x.clone()?, next.clone()?);
@@ -42,7 +43,9 @@ fn go_past(
     state: SymState,
     conts: &mut Conts,
 ) -> Result<Move, AllocError>
-    ensures { IfOk result (λ m. Stepped (settled program.now) (tree.Step (going (settled program.now) next.now.value (rule.with_unit (optional_term x.now.snapshot) (state_of state)))) conts.old.sides.items m conts.new.sides.items) }
+    ensures { IfOk result (λ m. Stepped (settled program.now)
+        (tree.Step (going (settled program.now) next.now.value (rule.with_unit (optional_term x.now.snapshot) (state_of state)))) conts.old.sides.items m
+        conts.new.sides.items) }
 {
     let mut state = state;
     state.add_unit(alloc, &x.snapshot)?;
@@ -85,7 +88,10 @@ fn go_both(
     state: SymState,
     conts: &mut Conts,
 ) -> Result<Move, AllocError>
-    ensures { IfOk result (λ m. Stepped (settled program.now) (tree.Fork (frame_tree (settled program.now) left (with_branch (held_term condition) (state_of state))) (going (settled program.now) next.now.value (rule.with_unit (optional_term x.now.snapshot) (with_branch (held_term negated) (state_of state))))) conts.old.sides.items m conts.new.sides.items) }
+    ensures { IfOk result (λ m. Stepped (settled program.now)
+        (tree.Fork (frame_tree (settled program.now) left (with_branch (held_term condition) (state_of state)))
+        (going (settled program.now) next.now.value (rule.with_unit (optional_term x.now.snapshot) (with_branch (held_term negated) (state_of state)))))
+        conts.old.sides.items m conts.new.sides.items) }
 {
     let first = looked_at(alloc, condition, &state)?;
     let second = passed(alloc, negated, x, state)?;
@@ -103,7 +109,10 @@ pub fn step_implied(
     state: SymState,
     conts: &mut Conts,
 ) -> Result<Move, AllocError>
-    ensures { IfOk result (λ m. Stepped (settled program.now) (rule.fork (held_term condition) (state_of state) (λ s. producing (settled program.now) (assertion a.now.value) x.now.value s (going (settled program.now) next.now.value)) (λ s. going (settled program.now) next.now.value (rule.with_unit (optional_term x.now.value.snapshot) s))) conts.old.sides.items m conts.new.sides.items) }
+    ensures { IfOk result (λ m. Stepped (settled program.now) (rule.fork (held_term condition) (state_of state)
+        (λ s. producing (settled program.now) (assertion a.now.value) x.now.value s (going (settled program.now) next.now.value))
+        (λ s. going (settled program.now) next.now.value (rule.with_unit (optional_term x.now.value.snapshot) s))) conts.old.sides.items m
+        conts.new.sides.items) }
 {
     let left = frame_of(alloc, program, a, x, next)?;
     if state.is_known(&condition) {
@@ -130,7 +139,10 @@ pub fn step_chosen(
     state: SymState,
     conts: &mut Conts,
 ) -> Result<Move, AllocError>
-    ensures { IfOk result (λ m. Stepped (settled program.now) (rule.fork (held_term condition) (state_of state) (λ s. producing (settled program.now) (assertion a.now.value) x.now.value s (going (settled program.now) next.now.value)) (λ s. producing (settled program.now) (assertion b.now.value) x.now.value s (going (settled program.now) next.now.value))) conts.old.sides.items m conts.new.sides.items) }
+    ensures { IfOk result (λ m. Stepped (settled program.now) (rule.fork (held_term condition) (state_of state)
+        (λ s. producing (settled program.now) (assertion a.now.value) x.now.value s (going (settled program.now) next.now.value))
+        (λ s. producing (settled program.now) (assertion b.now.value) x.now.value s (going (settled program.now) next.now.value))) conts.old.sides.items m
+        conts.new.sides.items) }
 {
     let left = frame_of(alloc, program, a, x, next)?;
     let right = frame_of(alloc, program, b, x, next)?;

@@ -19,7 +19,8 @@ ghost use Rattle.vx_real.specs.Examples.{on_line, cells, halves, counts, hopes, 
 /// Where a walk ends at a place by a sat that was right, a question stands in the tree at that place whose path an interpretation makes true, and
 /// whose condition it doesn't. Nothing is asked of the replies before the last one.
 pub fn a_right_sat_exposes_its_place()
-    ensures { (t : Tree) (replies : List Reply) (code : Code) (at : Place) → (walk t replies).ending ≡ Failed at code Sat → LastIsPossible (walk t replies).answered → (i : Interpretation) × Exposed i at code t }
+    ensures { (t : Tree) (replies : List Reply) (code : Code) (at : Place) → (walk t replies).ending ≡ Failed at code Sat
+        → LastIsPossible (walk t replies).answered → (i : Interpretation) × Exposed i at code t }
 {}
 
 /// A method of the language of fields whose walk ends at a place by a sat that was right fails at that place.

@@ -64,7 +64,8 @@ pub fn write_place(out: &mut String, place: Place) -> Result<(), AllocError>
 }
 
 fn write_failed(out: &mut String, place: Place, code: Code, reply: Reply) -> Result<(), AllocError>
-    ensures { OnOk result (string_bytes out.new ≡ string_bytes out.old ++ (codes "failed at " ++ spec.place_text place ++ codes " " ++ spec.code_word code ++ codes " (" ++ spec.reply_word reply ++ codes ")")) }
+    ensures { OnOk result (string_bytes out.new ≡ string_bytes out.old
+        ++ (codes "failed at " ++ spec.place_text place ++ codes " " ++ spec.code_word code ++ codes " (" ++ spec.reply_word reply ++ codes ")")) }
 {
     out.push_str("failed at ")?;
     write_place(out, place)?;

@@ -156,7 +156,8 @@ fn applied(
     name: &str,
     arguments: &[Rc<Expr>],
 ) -> Result<Rc<Assertion>, AllocError>
-    ensures { IfOk result (λ a. settled.assertion a.value ≡ (if (names_in names.now).is_predicate name.now then Syntax.Instance e.now.place name.now (expressions (written_all arguments.now)) (resolve.whole e.now.place) else Syntax.Pure (expression (written_expr e.now)))) }
+    ensures { IfOk result (λ a. settled.assertion a.value ≡ (if (names_in names.now).is_predicate name.now then Syntax.Instance e.now.place name.now
+        (expressions (written_all arguments.now)) (resolve.whole e.now.place) else Syntax.Pure (expression (written_expr e.now)))) }
 {
     if names.is_predicate(name) {
         return instance(alloc, e.place, name, arguments, &None);
@@ -260,7 +261,8 @@ pub fn add_assertion(
     e: &Expr,
     done: &mut Assertions,
 ) -> Result<(), AllocError>
-    ensures { OnOk result ((rest : List Syntax.Assertion) → settled.assertions done.new.items ++ rest ≡ settled.assertions done.old.items ++ assertion (names_in names.now) (written_expr e.now) ∷ rest) }
+    ensures { OnOk result ((rest : List Syntax.Assertion) → settled.assertions done.new.items ++ rest
+        ≡ settled.assertions done.old.items ++ assertion (names_in names.now) (written_expr e.now) ∷ rest) }
 {
     done.push(assertion(alloc, names, e)?)?;
     Ok(())

@@ -26,8 +26,11 @@ fn add(
     clause: &Clause,
     contract: &mut Contract,
 ) -> Result<(), AllocError>
-    ensures requires_settled { OnOk result ((rest : List written.Clause) → view.assertions contract.new.preconditions.items ++ required (names_in names.now) rest ≡ view.assertions contract.old.preconditions.items ++ required (names_in names.now) (written_clause clause.now ∷ rest)) }
-    ensures ensures_settled { OnOk result ((rest : List written.Clause) → view.assertions contract.new.postconditions.items ++ ensured (names_in names.now) rest ≡ view.assertions contract.old.postconditions.items ++ ensured (names_in names.now) (written_clause clause.now ∷ rest)) }
+    ensures requires_settled { OnOk result ((rest : List written.Clause)
+        → view.assertions contract.new.preconditions.items ++ required (names_in names.now) rest
+        ≡ view.assertions contract.old.preconditions.items ++ required (names_in names.now) (written_clause clause.now ∷ rest)) }
+    ensures ensures_settled { OnOk result ((rest : List written.Clause) → view.assertions contract.new.postconditions.items ++ ensured (names_in names.now) rest
+        ≡ view.assertions contract.old.postconditions.items ++ ensured (names_in names.now) (written_clause clause.now ∷ rest)) }
 {
     match clause {
         Clause::Requires(e) => add_assertion(alloc, names, e, &mut contract.preconditions),

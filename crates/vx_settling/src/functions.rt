@@ -90,7 +90,8 @@ fn add_promise(
     clause: &Clause,
     promises: &mut Vec<Rc<vx_resolved::Expr>>,
 ) -> Result<(), AllocError>
-    ensures { OnOk result ((rest : List written.Clause) → view.expressions promises.new.items ++ map settled_of (ensures_of rest) ≡ view.expressions promises.old.items ++ map settled_of (ensures_of (written_clause clause.now ∷ rest))) }
+    ensures { OnOk result ((rest : List written.Clause) → view.expressions promises.new.items ++ map settled_of (ensures_of rest)
+        ≡ view.expressions promises.old.items ++ map settled_of (ensures_of (written_clause clause.now ∷ rest))) }
 {
     match clause {
         Clause::Requires(_) => Ok(()),

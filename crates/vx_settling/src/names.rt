@@ -67,7 +67,8 @@ pub fn shared_names(alloc: Global, names: SharedNames) -> Result<Rc<SharedNames>
 
 // The name of a member, if it is a field.
 fn add_field(alloc: Global, m: &Member, names: &mut SharedNames) -> Result<(), AllocError>
-    ensures { OnOk result ((rest : List written.Member) → listed names.new.items ++ resolve.fields_of rest ≡ listed names.old.items ++ resolve.fields_of (written_member m.now ∷ rest)) }
+    ensures { OnOk result ((rest : List written.Member) → listed names.new.items ++ resolve.fields_of rest
+        ≡ listed names.old.items ++ resolve.fields_of (written_member m.now ∷ rest)) }
 {
     match &m.kind {
         MemberKind::Field(_) => add_name(alloc, &m.name.text, names),
@@ -97,7 +98,8 @@ fn insert(alloc: Global, name: &str, names: &mut HashSet<String>) -> Result<(), 
 
 // The name of a member, if it is a predicate.
 fn add_predicate(alloc: Global, m: &Member, names: &mut HashSet<String>) -> Result<(), AllocError>
-    ensures { OnOk result ((x : Name) → has_name names.new x ≡ ((resolve.is_predicate (written_member m.now).kind && same_name x (written_member m.now).name.name) || has_name names.old x)) }
+    ensures { OnOk result ((x : Name) → has_name names.new x
+        ≡ ((resolve.is_predicate (written_member m.now).kind && same_name x (written_member m.now).name.name) || has_name names.old x)) }
 {
     match &m.kind {
         MemberKind::Predicate(_) => insert(alloc, &m.name.text, names),
@@ -107,7 +109,8 @@ fn add_predicate(alloc: Global, m: &Member, names: &mut HashSet<String>) -> Resu
 
 // The name of a member, if it is a method.
 fn add_method(alloc: Global, m: &Member, names: &mut HashSet<String>) -> Result<(), AllocError>
-    ensures { OnOk result ((x : Name) → has_name names.new x ≡ ((resolve.is_method (written_member m.now).kind && same_name x (written_member m.now).name.name) || has_name names.old x)) }
+    ensures { OnOk result ((x : Name) → has_name names.new x
+        ≡ ((resolve.is_method (written_member m.now).kind && same_name x (written_member m.now).name.name) || has_name names.old x)) }
 {
     match &m.kind {
         MemberKind::Method(_) => insert(alloc, &m.name.text, names),

@@ -89,7 +89,9 @@ fn applied(
     name: &str,
     arguments: &[Rc<Expr>],
 ) -> Result<Rc<vx_resolved::Stmt>, AllocError>
-    ensures { IfOk result (λ s. settled.stmt s.value ≡ (if (names_in names.now).is_method name.now then Syntax.Call place (string_bytes target.value ∷ []) name.now (resolve.expressions (written_all arguments.now)) else Syntax.Assign place (string_bytes target.value) (resolve.expression (written_expr e.now)))) }
+    ensures { IfOk result (λ s. settled.stmt s.value ≡ (if (names_in names.now).is_method name.now then Syntax.Call place
+        (string_bytes target.value ∷ []) name.now (resolve.expressions (written_all arguments.now)) else Syntax.Assign place (string_bytes target.value)
+        (resolve.expression (written_expr e.now)))) }
 {
     if names.is_method(name) {
         return called(alloc, place, target, name, arguments);
@@ -295,7 +297,8 @@ fn write(
     block: &mut Settled,
 ) -> Result<(), AllocError>
     ensures { OnOk result ((rest : Syntax.Block) → onto (stmts block.new.items) rest
-        ≡ onto (stmts block.old.items) (Syntax.Then (Syntax.Write place (resolve.expression (written_expr e.now)) (name_of field.now).name (resolve.expression (written_expr value.now))) rest)) }
+        ≡ onto (stmts block.old.items) (Syntax.Then (Syntax.Write place (resolve.expression (written_expr e.now)) (name_of field.now).name
+        (resolve.expression (written_expr value.now))) rest)) }
 {
     let e = expression(alloc, e)?;
     let value = expression(alloc, value)?;
@@ -317,7 +320,8 @@ fn call(
     block: &mut Settled,
 ) -> Result<(), AllocError>
     ensures { OnOk result ((rest : Syntax.Block) → onto (stmts block.new.items) rest
-        ≡ onto (stmts block.old.items) (Syntax.Then (Syntax.Call place (bare (map name_of targets.now)) (name_of method.now).name (resolve.expressions (written_all arguments.now))) rest)) }
+        ≡ onto (stmts block.old.items) (Syntax.Then (Syntax.Call place (bare (map name_of targets.now)) (name_of method.now).name
+        (resolve.expressions (written_all arguments.now))) rest)) }
 {
     let targets = copied(alloc, targets)?;
     let method = shared(alloc, &method.text)?;
@@ -337,7 +341,8 @@ fn fold(
     block: &mut Settled,
 ) -> Result<(), AllocError>
     ensures { OnOk result ((rest : Syntax.Block) → onto (stmts block.new.items) rest
-        ≡ onto (stmts block.old.items) (Syntax.Then (Syntax.Fold place (name_of instance.now.predicate).name (resolve.expressions (written_all instance.now.arguments.items)) (resolve.amount place (written_optional instance.now.amount))) rest)) }
+        ≡ onto (stmts block.old.items) (Syntax.Then (Syntax.Fold place (name_of instance.now.predicate).name
+        (resolve.expressions (written_all instance.now.arguments.items)) (resolve.amount place (written_optional instance.now.amount))) rest)) }
 {
     let predicate = shared(alloc, &instance.predicate.text)?;
     let arguments = expressions(alloc, &instance.arguments)?;
@@ -357,7 +362,8 @@ fn unfold(
     block: &mut Settled,
 ) -> Result<(), AllocError>
     ensures { OnOk result ((rest : Syntax.Block) → onto (stmts block.new.items) rest
-        ≡ onto (stmts block.old.items) (Syntax.Then (Syntax.Unfold place (name_of instance.now.predicate).name (resolve.expressions (written_all instance.now.arguments.items)) (resolve.amount place (written_optional instance.now.amount))) rest)) }
+        ≡ onto (stmts block.old.items) (Syntax.Then (Syntax.Unfold place (name_of instance.now.predicate).name
+        (resolve.expressions (written_all instance.now.arguments.items)) (resolve.amount place (written_optional instance.now.amount))) rest)) }
 {
     let predicate = shared(alloc, &instance.predicate.text)?;
     let arguments = expressions(alloc, &instance.arguments)?;
@@ -396,7 +402,8 @@ fn repeated(
     block: &mut Settled,
 ) -> Result<(), AllocError>
     ensures { OnOk result ((rest : Syntax.Block) → onto (stmts block.new.items) rest
-        ≡ onto (stmts block.old.items) (Syntax.Then (Syntax.While place (resolve.expression (written_expr c.now)) (resolve.assertions (names_in names.now) (written_all invariants.now)) (settled.block body.value)) rest)) }
+        ≡ onto (stmts block.old.items) (Syntax.Then (Syntax.While place (resolve.expression (written_expr c.now))
+        (resolve.assertions (names_in names.now) (written_all invariants.now)) (settled.block body.value)) rest)) }
 {
     let c = expression(alloc, c)?;
     let invariants = assertions(alloc, names, invariants)?;

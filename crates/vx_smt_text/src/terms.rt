@@ -40,7 +40,8 @@ fn put_application<'t>(
     a: &Sort,
     args: &'t Terms,
 ) -> Result<(), AllocError>
-    ensures text { OnOk result (text.new.items ++ texts pending.new.items ≡ text.old.items ++ term_text (Written.Apply (symbol f.now) (sort a.now) (terms args.now)) ++ texts pending.old.items) }
+    ensures text { OnOk result (text.new.items ++ texts pending.new.items
+        ≡ text.old.items ++ term_text (Written.Apply (symbol f.now) (sort a.now) (terms args.now)) ++ texts pending.old.items) }
     ensures load { OnOk result (load pending.new.items < 4 * parts (Written.Apply (symbol f.now) (sort a.now) (terms args.now)) + load pending.old.items) }
     ensures small { OnOk result (ArePendingSmall pending.new.items → IsSmallTerm (Written.Apply (symbol f.now) (sort a.now) (terms args.now)) × ArePendingSmall pending.old.items) }
 {
@@ -57,7 +58,8 @@ fn put_operation<'t>(
     t: &'t Term,
     u: &'t Term,
 ) -> Result<(), AllocError>
-    ensures text { OnOk result (text.new.items ++ texts pending.new.items ≡ text.old.items ++ term_text (Written.Binary (operator o) (term t.now) (term u.now)) ++ texts pending.old.items) }
+    ensures text { OnOk result (text.new.items ++ texts pending.new.items ≡ text.old.items ++ term_text (Written.Binary (operator o) (term t.now) (term u.now))
+        ++ texts pending.old.items) }
     ensures load { OnOk result (load pending.new.items < 4 * parts (Written.Binary (operator o) (term t.now) (term u.now)) + load pending.old.items) }
     ensures small { OnOk result (ArePendingSmall pending.new.items → IsSmallTerm (Written.Binary (operator o) (term t.now) (term u.now)) × ArePendingSmall pending.old.items) }
 {
@@ -75,7 +77,8 @@ fn put_choice<'t>(
     t: &'t Term,
     u: &'t Term,
 ) -> Result<(), AllocError>
-    ensures text { OnOk result (text.new.items ++ texts pending.new.items ≡ text.old.items ++ term_text (Written.Ite (term c.now) (term t.now) (term u.now)) ++ texts pending.old.items) }
+    ensures text { OnOk result (text.new.items ++ texts pending.new.items ≡ text.old.items ++ term_text (Written.Ite (term c.now) (term t.now) (term u.now))
+        ++ texts pending.old.items) }
     ensures load { OnOk result (load pending.new.items < 4 * parts (Written.Ite (term c.now) (term t.now) (term u.now)) + load pending.old.items) }
     ensures small { OnOk result (ArePendingSmall pending.new.items → IsSmallTerm (Written.Ite (term c.now) (term t.now) (term u.now)) × ArePendingSmall pending.old.items) }
 {

@@ -37,7 +37,8 @@ pub fn trees_tell_what_is_held()
     ensures values { (p : Program) (x : Name) → GoodBodies p → GoodFunctions p → Covered p (IsProper p x) → TreesTellWhatIsHeld p (IsProper p x) }
     ensures entries { (p : Program) (x : Name) → GoodBodies p → GoodFunctions p → Covered p (IsProper p x) → TreesTellEntries p (IsProper p x) }
     ensures holdings { (p : Program) (x : Name) → GoodBodies p → GoodFunctions p → Covered p (IsProper p x) → TreesTellHoldings p (IsProper p x) }
-    ensures passed { (p : Program) (x : Name) (replies : Name → List Reply) → IsTypedProgram p → PredicatesPass p x replies → TreesTellWhatIsHeld p (IsProper p x) × TreesTellEntries p (IsProper p x) × TreesTellHoldings p (IsProper p x) }
+    ensures passed { (p : Program) (x : Name) (replies : Name → List Reply) → IsTypedProgram p → PredicatesPass p x replies
+        → TreesTellWhatIsHeld p (IsProper p x) × TreesTellEntries p (IsProper p x) × TreesTellHoldings p (IsProper p x) }
 {}
 
 /// So does the value of a function that applies others, whose body fits firmly: what it applies takes its precondition from what
@@ -106,7 +107,8 @@ pub fn get_is_determined()
 pub fn twice_is_determined()
     ensures allowed { (z : ℤ) → firm_application boxes (firmly boxes 3) twice (RefValue 1 ∷ []) (holding z) ≡ Some (IntValue (z +ℤ z)) }
     ensures fits { (z : ℤ) → FitsFirmly boxes (holding z) doubler.body (IntValue (z +ℤ z)) }
-    ensures determined { (z : ℤ) (t : State) → t.store ≡ x_is_one → IsAskingTreeOf boxes t (precondition_of doubler) (IntLeaf z) → IsValueOf boxes twice (RefValue 1 ∷ []) t (IntValue (z +ℤ z)) }
+    ensures determined { (z : ℤ) (t : State) → t.store ≡ x_is_one → IsAskingTreeOf boxes t (precondition_of doubler) (IntLeaf z)
+        → IsValueOf boxes twice (RefValue 1 ∷ []) t (IntValue (z +ℤ z)) }
 {}
 
 /// `peek(x)` reads x.f and asks for nothing: its body doesn't fit, and with one tree it has every value.

@@ -68,7 +68,8 @@ pub fn some_bodies_are_good()
 
 /// A predicate whose walk passed, with right unsat replies, doesn't fail.
 pub fn passed_predicates_never_fail()
-    ensures sound { (p : Program) (i : Name) (d : Predicate) (replies : List Reply) → IsTypedProgram p → predicate_named p i ≡ Some d → Passes p i (IsPredicate d) replies → Fails p i (IsPredicate d) → ⊥ }
+    ensures sound { (p : Program) (i : Name) (d : Predicate) (replies : List Reply) → IsTypedProgram p → predicate_named p i ≡ Some d
+        → Passes p i (IsPredicate d) replies → Fails p i (IsPredicate d) → ⊥ }
     ensures cells { Fails cells P (IsPredicate cell) → ⊥ }
     ensures chains { Fails chains P (IsPredicate chain) → ⊥ }
 {}
@@ -85,8 +86,11 @@ pub fn passed_bodies_are_covered()
 /// Then any change of the heap where nothing is held leaves a state that can be, and each instance that is held with its tree,
 /// if what is held is of typed instances of these predicates and nothing is owed: instances look only at what they hold.
 pub fn changes_keep_what_is_held()
-    ensures consistent { (p : Program) (x : Name) (replies : Name → List Reply) → IsTypedProgram p → PredicatesPass p x replies → (s : State) (g : Heap) → IsConsistent p s → IsStocked p x s.holdings → Changes p s g → IsConsistent p (with_heap g s) }
-    ensures trees { (p : Program) (x : Name) (replies : Name → List Reply) → IsTypedProgram p → PredicatesPass p x replies → (s : State) (g : Heap) → IsConsistent p s → IsStocked p x s.holdings → Changes p s g → (i : Instance) (t : Tree) → is_positive (amount s.holdings (Folded i)) ≡ true → IsTree p s.heap i t → IsTree p g i t }
+    ensures consistent { (p : Program) (x : Name) (replies : Name → List Reply) → IsTypedProgram p → PredicatesPass p x replies → (s : State) (g : Heap)
+        → IsConsistent p s → IsStocked p x s.holdings → Changes p s g → IsConsistent p (with_heap g s) }
+    ensures trees { (p : Program) (x : Name) (replies : Name → List Reply) → IsTypedProgram p → PredicatesPass p x replies → (s : State) (g : Heap)
+        → IsConsistent p s → IsStocked p x s.holdings → Changes p s g → (i : Instance) (t : Tree) → is_positive (amount s.holdings (Folded i)) ≡ true
+        → IsTree p s.heap i t → IsTree p g i t }
 {}
 
 /// The law holds of members that lead to no function, with predicates, `fold`, `unfold` and `unfolding`: where the walks of all

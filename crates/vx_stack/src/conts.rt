@@ -193,7 +193,9 @@ impl Conts {
         hole: Hole,
         state: SymState,
     ) -> Result<Move, AllocError>
-        ensures { IfOk result (λ m. Stepped (settled program.now) (tree.Step (rule.eval (settled program.now) (rules (settled program.now)) (expr e.now.value) (state_of state) (giving (settled program.now) hole))) self.old.sides.items m self.new.sides.items) }
+        ensures { IfOk result (λ m. Stepped (settled program.now)
+            (tree.Step (rule.eval (settled program.now) (rules (settled program.now)) (expr e.now.value) (state_of state) (giving (settled program.now) hole)))
+            self.old.sides.items m self.new.sides.items) }
     {
         let hole = Rc::new(alloc, hole)?;
         self.go(program, Frame::Eval(e.clone()?, hole), state)
@@ -208,7 +210,9 @@ impl Conts {
         row: Row,
         state: SymState,
     ) -> Result<Move, AllocError>
-        ensures { IfOk result (λ m. Stepped (settled program.now) (tree.Step (rule.evals (settled program.now) (rules (settled program.now)) (exprs es.now.value) (state_of state) (giving_all (settled program.now) row))) self.old.sides.items m self.new.sides.items) }
+        ensures { IfOk result (λ m. Stepped (settled program.now)
+            (tree.Step (rule.evals (settled program.now) (rules (settled program.now)) (exprs es.now.value) (state_of state)
+            (giving_all (settled program.now) row))) self.old.sides.items m self.new.sides.items) }
     {
         let row = Rc::new(alloc, row)?;
         self.next(alloc, program, Next::Evals(es.clone()?, row), state)
@@ -222,7 +226,8 @@ impl Conts {
         row: &Rc<Row>,
         state: SymState,
     ) -> Result<Move, AllocError>
-        ensures { IfOk result (λ m. Stepped (settled program.now) (tree.Step (giving_all (settled program.now) row.now.value (values_of values.value) (state_of state))) self.old.sides.items m self.new.sides.items) }
+        ensures { IfOk result (λ m. Stepped (settled program.now)
+            (tree.Step (giving_all (settled program.now) row.now.value (values_of values.value) (state_of state))) self.old.sides.items m self.new.sides.items) }
     {
         self.go(program, Frame::GiveAll(values, row.clone()?), state)
     }
@@ -235,7 +240,8 @@ impl Conts {
         hole: &Rc<Hole>,
         state: SymState,
     ) -> Result<Move, AllocError>
-        ensures { IfOk result (λ m. Stepped (settled program.now) (tree.Step (giving (settled program.now) hole.now.value (held_term value) (state_of state))) self.old.sides.items m self.new.sides.items) }
+        ensures { IfOk result (λ m. Stepped (settled program.now) (tree.Step (giving (settled program.now) hole.now.value (held_term value) (state_of state)))
+            self.old.sides.items m self.new.sides.items) }
     {
         self.go(program, Frame::Give(value, hole.clone()?), state)
     }
@@ -272,7 +278,8 @@ impl Conts {
         frame: Frame,
     ) -> Result<Move, AllocError>
         requires { query.probe ≡ false }
-        ensures { (p : Program) → IfOk result (λ m. Stepped p (tree.Ask (question_of query) (frame_tree p frame (with_fact (held_term condition) (state_of state)))) self.old.sides.items m self.new.sides.items) }
+        ensures { (p : Program) → IfOk result (λ m. Stepped p (tree.Ask (question_of query)
+            (frame_tree p frame (with_fact (held_term condition) (state_of state)))) self.old.sides.items m self.new.sides.items) }
     {
         let mut state = state;
         state.add_fact(alloc, condition)?;
@@ -318,7 +325,8 @@ impl Conts {
         otherwise: Side,
     ) -> Result<Move, AllocError>
         requires { query.probe ≡ true }
-        ensures { (p : Program) → IfOk result (λ m. Stepped p (tree.Probe (question_of query) (tree.Impossible (state_of otherwise.state)) (side_tree p otherwise)) self.old.sides.items m self.new.sides.items) }
+        ensures { (p : Program) → IfOk result (λ m. Stepped p (tree.Probe (question_of query) (tree.Impossible (state_of otherwise.state))
+            (side_tree p otherwise)) self.old.sides.items m self.new.sides.items) }
     {
         let refuted = impossible(alloc, &otherwise.state)?;
         self.check_both(query, refuted, otherwise)
@@ -335,7 +343,9 @@ impl Conts {
         state: SymState,
         frame: Frame,
     ) -> Result<Move, AllocError>
-        ensures { IfOk result (λ m. Stepped (settled program.now) (rule.ask (held_term condition) place (code_of code) (state_of state) (frame_tree (settled program.now) frame)) self.old.sides.items m self.new.sides.items) }
+        ensures { IfOk result (λ m. Stepped (settled program.now)
+            (rule.ask (held_term condition) place (code_of code) (state_of state) (frame_tree (settled program.now) frame)) self.old.sides.items m
+            self.new.sides.items) }
     {
         if passes(&condition, &state) {
             return self.go(program, frame, state);
@@ -379,7 +389,9 @@ impl Conts {
         refuted: Side,
         otherwise: Side,
     ) -> Result<Move, AllocError>
-        ensures { IfOk result (λ m. Stepped (settled program.now) (rule.probe (held_term condition.now) place (code_of code) (state_of otherwise.state) (side_tree (settled program.now) refuted) (side_tree (settled program.now) otherwise)) self.old.sides.items m self.new.sides.items) }
+        ensures { IfOk result (λ m. Stepped (settled program.now)
+            (rule.probe (held_term condition.now) place (code_of code) (state_of otherwise.state) (side_tree (settled program.now) refuted)
+            (side_tree (settled program.now) otherwise)) self.old.sides.items m self.new.sides.items) }
     {
         let _program = program;
         if is_true(condition) {
@@ -405,7 +417,9 @@ impl Conts {
         left: Frame,
         right: Frame,
     ) -> Result<Move, AllocError>
-        ensures { IfOk result (λ m. Stepped (settled program.now) (rule.fork (held_term condition) (state_of state) (frame_tree (settled program.now) left) (frame_tree (settled program.now) right)) self.old.sides.items m self.new.sides.items) }
+        ensures { IfOk result (λ m. Stepped (settled program.now)
+            (rule.fork (held_term condition) (state_of state) (frame_tree (settled program.now) left) (frame_tree (settled program.now) right))
+            self.old.sides.items m self.new.sides.items) }
     {
         if state.is_known(&condition) {
             return self.go(program, left, state);
@@ -428,7 +442,9 @@ impl Conts {
         right: Frame,
         second: SymState,
     ) -> Result<Move, AllocError>
-        ensures { IfOk result (λ m. Stepped (settled program.now) (tree.Fork (frame_tree (settled program.now) left (state_of first)) (frame_tree (settled program.now) right (state_of second))) self.old.sides.items m self.new.sides.items) }
+        ensures { IfOk result (λ m. Stepped (settled program.now)
+            (tree.Fork (frame_tree (settled program.now) left (state_of first)) (frame_tree (settled program.now) right (state_of second))) self.old.sides.items
+            m self.new.sides.items) }
     {
         let (of_first, of_second) = next_segments(&mut self.opened)?;
         let mut first = first;
@@ -447,7 +463,9 @@ impl Conts {
         right: Frame,
         second: SymState,
     ) -> Result<Move, AllocError>
-        ensures { IfOk result (λ m. Stepped (settled program.now) (tree.Fork (frame_tree (settled program.now) left (state_of first)) (frame_tree (settled program.now) right (state_of second))) self.old.sides.items m self.new.sides.items) }
+        ensures { IfOk result (λ m. Stepped (settled program.now)
+            (tree.Fork (frame_tree (settled program.now) left (state_of first)) (frame_tree (settled program.now) right (state_of second))) self.old.sides.items
+            m self.new.sides.items) }
     {
         let _program = program;
         self.push(right, second)?;

@@ -18,7 +18,8 @@ pub fn chunk_of(
     snapshot: Rc<Term>,
     is_inner: bool,
 ) -> Result<Chunk, AllocError>
-    ensures { IfOk result (λ c. chunk_view c ≡ record (instance_key (string_bytes instance.now.predicate.value) (values instance.now.arguments.value)) { amount = held_term instance.now.amount; value = held_term snapshot; inner = is_inner }) }
+    ensures { IfOk result (λ c. chunk_view c ≡ record (instance_key (string_bytes instance.now.predicate.value) (values instance.now.arguments.value))
+        { amount = held_term instance.now.amount; value = held_term snapshot; inner = is_inner }) }
 {
     Ok(Chunk {
         resource: Resource::Predicate(instance.predicate.clone()?),

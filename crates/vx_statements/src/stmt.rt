@@ -354,7 +354,8 @@ fn opens(
     variables: &Variables,
     i: &Instance,
 ) -> Result<(), TypeFault>
-    ensures { Gives (λ x. tt) result (first.opened (within_method (table members.now.entries) (known variables.now.entries)) (name_of i.now.predicate) (written_all i.now.arguments.items) (written_optional i.now.amount)) }
+    ensures { Gives (λ x. tt) result (first.opened (within_method (table members.now.entries) (known variables.now.entries)) (name_of i.now.predicate)
+        (written_all i.now.arguments.items) (written_optional i.now.amount)) }
 {
     opened(alloc, Setting::within_method(members, variables), i)
 }

@@ -56,7 +56,8 @@ impl SymState {
         name: &Rc<String>,
         done: &mut Vec<Rc<String>>,
     ) -> Result<(), AllocError>
-        ensures { IfOk result (λ _. (rest : List Name) → members.forget (names_of done.new.items) rest (state self.new) ≡ members.forget (names_of done.old.items) (string_bytes name.now.value ∷ rest) (state self.old)) }
+        ensures { IfOk result (λ _. (rest : List Name) → members.forget (names_of done.new.items) rest (state self.new)
+            ≡ members.forget (names_of done.old.items) (string_bytes name.now.value ∷ rest) (state self.old)) }
     {
         if !self.is_stored(name) {
             return Ok(());
@@ -75,7 +76,8 @@ impl SymState {
         those: &[Rc<String>],
         done: &mut Vec<Rc<String>>,
     ) -> Result<(), AllocError>
-        ensures { IfOk result (λ _. (rest : List Name) → members.forget (names_of done.new.items) rest (state self.new) ≡ members.forget (names_of done.old.items) (names_of those.now ++ rest) (state self.old)) }
+        ensures { IfOk result (λ _. (rest : List Name) → members.forget (names_of done.new.items) rest (state self.new)
+            ≡ members.forget (names_of done.old.items) (names_of those.now ++ rest) (state self.old)) }
     {
         for name in those {
             self.forget_one(alloc, name, done)?;
@@ -91,7 +93,8 @@ impl SymState {
         stmt: &Stmt,
         done: &mut Vec<Rc<String>>,
     ) -> Result<(), AllocError>
-        ensures { IfOk result (λ _. (rest : List Name) → members.forget (names_of done.new.items) rest (state self.new) ≡ members.forget (names_of done.old.items) (assigned (stmt_view stmt.now) ++ rest) (state self.old)) }
+        ensures { IfOk result (λ _. (rest : List Name) → members.forget (names_of done.new.items) rest (state self.new)
+            ≡ members.forget (names_of done.old.items) (assigned (stmt_view stmt.now) ++ rest) (state self.old)) }
     {
         match stmt {
             Stmt::Declare(_, _, _) => Ok(()),
@@ -121,7 +124,8 @@ impl SymState {
         block: &Block,
         done: &mut Vec<Rc<String>>,
     ) -> Result<(), AllocError>
-        ensures { IfOk result (λ _. (rest : List Name) → members.forget (names_of done.new.items) rest (state self.new) ≡ members.forget (names_of done.old.items) (assigned_in (block_view block.now) ++ rest) (state self.old)) }
+        ensures { IfOk result (λ _. (rest : List Name) → members.forget (names_of done.new.items) rest (state self.new)
+            ≡ members.forget (names_of done.old.items) (assigned_in (block_view block.now) ++ rest) (state self.old)) }
     {
         let mut left = block;
         loop {

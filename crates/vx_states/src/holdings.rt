@@ -23,7 +23,8 @@ fn put_into(
     bounded: bool,
     chunk: Chunk,
 ) -> Result<Vec<Rc<Term>>, AllocError>
-    ensures { IfOk result (λ facts. (s : State) → not (is_quiet s) ≡ summed → with_facts (terms_of facts.items) (over bounded (heap held.new.value) s) ≡ chunks.put (chunk_view chunk) (over bounded (heap held.old.value) s)) }
+    ensures { IfOk result (λ facts. (s : State) → not (is_quiet s) ≡ summed → with_facts (terms_of facts.items) (over bounded (heap held.new.value) s)
+        ≡ chunks.put (chunk_view chunk) (over bounded (heap held.old.value) s)) }
 {
     match Rc::get_mut(held) {
         Some(own) => own.put(alloc, summed, bounded, chunk),

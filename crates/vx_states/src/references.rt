@@ -23,7 +23,8 @@ fn add_unlike_stored(
     store: &[Binding],
     facts: &mut Vec<Rc<Term>>,
 ) -> Result<(), AllocError>
-    ensures { OnOk result ((rest : List written.Term) → terms_of facts.new.items ++ rest ≡ terms_of facts.old.items ++ (members.unlike_stored (held_term x.now) (terms_in (map binding store.now)) ++ rest)) }
+    ensures { OnOk result ((rest : List written.Term) → terms_of facts.new.items ++ rest
+        ≡ terms_of facts.old.items ++ (members.unlike_stored (held_term x.now) (terms_in (map binding store.now)) ++ rest)) }
 {
     for b in store {
         add_unlike(alloc, x, &b.value, facts)?;
@@ -55,7 +56,9 @@ impl SymState {
 
     /// A new reference, which differs from null and from what is known.
     pub fn new_reference(&mut self, alloc: Global) -> Result<Rc<Term>, AllocError>
-        ensures { IfOk result (λ t. (held_term t ≡ states.fresh RefSort (state self.old)) × (state self.new ≡ states.with_facts (members.distinct (states.fresh RefSort (state self.old)) (state self.old)) (states.after_fresh (state self.old)))) }
+        ensures { IfOk result (λ t. (held_term t ≡ states.fresh RefSort (state self.old))
+            × (state self.new ≡ states.with_facts (members.distinct (states.fresh RefSort (state self.old)) (state self.old))
+            (states.after_fresh (state self.old)))) }
     {
         let x = self.new_symbol(alloc, Sort::Ref)?;
         let facts = self.distinct(alloc, &x)?;

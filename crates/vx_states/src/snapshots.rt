@@ -108,7 +108,8 @@ impl SymState {
 
     /// The value that a snapshot gives a location: a name for what it wraps, and the fact that it wraps it.
     fn value_by(&mut self, alloc: Global, of: &Sort, t: &Rc<Term>) -> Result<Rc<Term>, AllocError>
-        ensures { IfOk result (λ v. (held_term v ≡ rules.produced_value (sort_view of.now) (Some (held_term t.now)) (state self.old)) × (state self.new ≡ rules.after_value (sort_view of.now) (Some (held_term t.now)) (state self.old))) }
+        ensures { IfOk result (λ v. (held_term v ≡ rules.produced_value (sort_view of.now) (Some (held_term t.now)) (state self.old))
+            × (state self.new ≡ rules.after_value (sort_view of.now) (Some (held_term t.now)) (state self.old))) }
     {
         let value = self.name(alloc, snapshots::unwrap(alloc, of, t)?)?;
         let wrapped = snapshots::wrap(alloc, of, &value)?;
@@ -124,7 +125,8 @@ impl SymState {
         of: Sort,
         snapshot: &Option<Rc<Term>>,
     ) -> Result<Rc<Term>, AllocError>
-        ensures { IfOk result (λ t. (held_term t ≡ rules.produced_value (sort_view of) (optional_term snapshot.now) (state self.old)) × (state self.new ≡ rules.after_value (sort_view of) (optional_term snapshot.now) (state self.old))) }
+        ensures { IfOk result (λ t. (held_term t ≡ rules.produced_value (sort_view of) (optional_term snapshot.now) (state self.old))
+            × (state self.new ≡ rules.after_value (sort_view of) (optional_term snapshot.now) (state self.old))) }
     {
         match snapshot {
             Some(t) => self.value_by(alloc, &of, t),
@@ -138,7 +140,8 @@ impl SymState {
         alloc: Global,
         snapshot: &Option<Rc<Term>>,
     ) -> Result<Rc<Term>, AllocError>
-        ensures { IfOk result (λ t. (held_term t ≡ rules.produced_snapshot (optional_term snapshot.now) (state self.old)) × (state self.new ≡ rules.after_snapshot (optional_term snapshot.now) (state self.old))) }
+        ensures { IfOk result (λ t. (held_term t ≡ rules.produced_snapshot (optional_term snapshot.now) (state self.old))
+            × (state self.new ≡ rules.after_snapshot (optional_term snapshot.now) (state self.old))) }
     {
         match snapshot {
             Some(t) => self.name(alloc, t.clone()?),
@@ -148,7 +151,9 @@ impl SymState {
 
     /// The fact that a wrapped value unwraps to itself, as it is written.
     pub fn add_wrap(&mut self, alloc: Global, of: &Sort, value: &Rc<Term>) -> Result<(), AllocError>
-        ensures { IfOk result (λ _. state self.new ≡ states.with_fact (written.Binary sort.Equal (built.written_unwrap (sort_view of.now) (built.wrap (sort_view of.now) (held_term value.now))) (held_term value.now)) (state self.old)) }
+        ensures { IfOk result (λ _. state self.new ≡ states.with_fact
+            (written.Binary sort.Equal (built.written_unwrap (sort_view of.now) (built.wrap (sort_view of.now) (held_term value.now))) (held_term value.now))
+            (state self.old)) }
     {
         let wrapped = snapshots::wrap(alloc, of, value)?;
         let unwrapped = snapshots::written_unwrap(alloc, of, &wrapped)?;

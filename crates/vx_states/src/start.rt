@@ -23,7 +23,8 @@ pub fn quiet(
     arguments: &[Rc<Term>],
 ) -> Result<SymState, AllocError>
     requires { (state_of from.now).level < 255 }
-    ensures { IfOk result (λ s. (p : Program) (o : rules.Outer) → state_of s ≡ rules.quietly p o (states.bind (map declaration parameters.now) (terms_of arguments.now)) (state_of from.now)) }
+    ensures { IfOk result (λ s. (p : Program) (o : rules.Outer)
+        → state_of s ≡ rules.quietly p o (states.bind (map declaration parameters.now) (terms_of arguments.now)) (state_of from.now)) }
 {
     let mut start = from.copy(alloc)?;
     let nowhere = Place { line: 0, column: 0 };

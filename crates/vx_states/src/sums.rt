@@ -91,7 +91,9 @@ impl SymState {
         wanted: &Rc<Term>,
         from: &Candidate,
     ) -> Result<Rc<Term>, AllocError>
-        ensures { IfOk result (λ taken. (rest : List chunks.Candidate) → chunks.shared_out (held_term receiver.now) (built.subtract (held_term wanted.now) (held_term taken)) rest (state self.new) ≡ chunks.shared_out (held_term receiver.now) (held_term wanted.now) (candidate from.now ∷ rest) (state self.old)) }
+        ensures { IfOk result (λ taken. (rest : List chunks.Candidate)
+            → chunks.shared_out (held_term receiver.now) (built.subtract (held_term wanted.now) (held_term taken)) rest (state self.new)
+            ≡ chunks.shared_out (held_term receiver.now) (held_term wanted.now) (candidate from.now ∷ rest) (state self.old)) }
     {
         let part = share(alloc, receiver, wanted, &from.chunk)?;
         let taken = self.name(alloc, part)?;

@@ -19,7 +19,8 @@ pub fn gathered(
     left: &SymState,
     said: &Rc<Term>,
 ) -> Result<Rc<Term>, AllocError>
-    ensures { IfOk result (λ t. held_term t ≡ built.implies (conjunction true (new_entries (state before.now) (state left.now))) (built.and (conjunction false (new_entries (state before.now) (state left.now))) (held_term said.now))) }
+    ensures { IfOk result (λ t. held_term t ≡ built.implies (conjunction true (new_entries (state before.now) (state left.now)))
+        (built.and (conjunction false (new_entries (state before.now) (state left.now))) (held_term said.now))) }
 {
     let new = news_since(alloc, before, left)?;
     let told = make::and(alloc, &new.facts, said)?;

@@ -36,7 +36,12 @@ fn step_share(
     state: SymState,
     conts: &mut Conts,
 ) -> Result<Move, AllocError>
-    ensures { IfOk result (λ m. Stepped (settled program.now) (rule.eval (settled program.now) (rules (settled program.now)) (expr share.now.value) (state_of state) (λ a s. taking (settled program.now) place (string_bytes field.now.value) (held_term receiver) (multiply (held_term x.now.value.scale) a) (code_of x.now.value.codes.permission) (heap_of heap.now.value) s (wrapped (settled program.now) (string_bytes field.now.value) (context x.now.value.codes) (giving (settled program.now) hole.now.value)))) conts.old.sides.items m conts.new.sides.items) }
+    ensures { IfOk result (λ m. Stepped (settled program.now)
+        (rule.eval (settled program.now) (rules (settled program.now)) (expr share.now.value) (state_of state)
+        (λ a s. taking (settled program.now) place (string_bytes field.now.value) (held_term receiver) (multiply (held_term x.now.value.scale) a)
+        (code_of x.now.value.codes.permission) (heap_of heap.now.value) s
+        (wrapped (settled program.now) (string_bytes field.now.value) (context x.now.value.codes) (giving (settled program.now) hole.now.value))))
+        conts.old.sides.items m conts.new.sides.items) }
 {
     let amount = Consumed::Amount(place, field.clone()?, receiver, x.clone()?, heap.clone()?);
     let rest = Rc::new(alloc, Hole::Consumed(amount, hole.clone()?))?;
@@ -57,7 +62,11 @@ pub fn step_arguments(
     state: SymState,
     conts: &mut Conts,
 ) -> Result<Move, AllocError>
-    ensures { IfOk result (λ m. Stepped (settled program.now) (rule.eval (settled program.now) (rules (settled program.now)) (expr share.now.value) (state_of state) (λ a s. taking_instance (settled program.now) place (string_bytes predicate.now.value) (values arguments.now.value) (multiply (held_term x.now.value.scale) a) (code_of x.now.value.codes.permission) (heap_of heap.now.value) s (λ v s1. tree.Step (giving (settled program.now) hole.now.value v s1)))) conts.old.sides.items m conts.new.sides.items) }
+    ensures { IfOk result (λ m. Stepped (settled program.now)
+        (rule.eval (settled program.now) (rules (settled program.now)) (expr share.now.value) (state_of state)
+        (λ a s. taking_instance (settled program.now) place (string_bytes predicate.now.value) (values arguments.now.value)
+        (multiply (held_term x.now.value.scale) a) (code_of x.now.value.codes.permission) (heap_of heap.now.value) s
+        (λ v s1. tree.Step (giving (settled program.now) hole.now.value v s1)))) conts.old.sides.items m conts.new.sides.items) }
 {
     let held = Consumed::Held(
         place,
@@ -80,7 +89,9 @@ pub fn step_consumed(
     state: SymState,
     conts: &mut Conts,
 ) -> Result<Move, AllocError>
-    ensures { IfOk result (λ m. Stepped (settled program.now) (consumed_of (settled program.now) consumed.now (giving (settled program.now) hole.now.value) (held_term value) (state_of state)) conts.old.sides.items m conts.new.sides.items) }
+    ensures { IfOk result (λ m. Stepped (settled program.now)
+        (consumed_of (settled program.now) consumed.now (giving (settled program.now) hole.now.value) (held_term value) (state_of state)) conts.old.sides.items
+        m conts.new.sides.items) }
 {
     match consumed {
         Consumed::Share(place, field, share, x, heap) => step_share(

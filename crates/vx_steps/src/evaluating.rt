@@ -25,7 +25,9 @@ pub fn step_operand(
     state: SymState,
     conts: &mut Conts,
 ) -> Result<Move, AllocError>
-    ensures { IfOk result (λ m. Stepped (settled program.now) (operand_of (settled program.now) operand.now (giving (settled program.now) hole.now.value) (held_term value) (state_of state)) conts.old.sides.items m conts.new.sides.items) }
+    ensures { IfOk result (λ m. Stepped (settled program.now)
+        (operand_of (settled program.now) operand.now (giving (settled program.now) hole.now.value) (held_term value) (state_of state)) conts.old.sides.items m
+        conts.new.sides.items) }
 {
     match operand {
         Operand::Receiver(at, field) => {

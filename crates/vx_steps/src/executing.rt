@@ -25,7 +25,8 @@ fn step_promised(
     state: SymState,
     conts: &mut Conts,
 ) -> Result<Move, AllocError>
-    ensures { IfOk result (λ m. Stepped (settled program.now) (promised (settled program.now) called.now (going (settled program.now) next.now.value) (state_of state)) conts.old.sides.items m conts.new.sides.items) }
+    ensures { IfOk result (λ m. Stepped (settled program.now)
+        (promised (settled program.now) called.now (going (settled program.now) next.now.value) (state_of state)) conts.old.sides.items m conts.new.sides.items) }
 {
     program.keeps_apart();
     vx_depth::rules_read_parts_by_themselves();
@@ -46,7 +47,9 @@ pub fn step_executed(
     state: SymState,
     conts: &mut Conts,
 ) -> Result<Move, AllocError>
-    ensures { IfOk result (λ m. Stepped (settled program.now) (executed_of (settled program.now) executed.now (going (settled program.now) next.now.value) (held_term value) (state_of state)) conts.old.sides.items m conts.new.sides.items) }
+    ensures { IfOk result (λ m. Stepped (settled program.now)
+        (executed_of (settled program.now) executed.now (going (settled program.now) next.now.value) (held_term value) (state_of state)) conts.old.sides.items m
+        conts.new.sides.items) }
 {
     match executed {
         Executed::WriteWith(place, field, receiver) => vx_sums::write(

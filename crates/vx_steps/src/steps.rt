@@ -39,7 +39,8 @@ fn step_both_sides(
     state: SymState,
     conts: &mut Conts,
 ) -> Result<Move, AllocError>
-    ensures { IfOk result (λ v. Stepped (settled program.now) (both_sides (settled program.now) (rules (settled program.now)) (method m.now) (state_of state)) conts.old.sides.items v conts.new.sides.items) }
+    ensures { IfOk result (λ v. Stepped (settled program.now) (both_sides (settled program.now) (rules (settled program.now)) (method m.now) (state_of state))
+        conts.old.sides.items v conts.new.sides.items) }
 {
     match &m.body {
         Some(body) => vx_members::step_sides(alloc, program, m, body, state, conts),
@@ -63,7 +64,8 @@ fn step_method(
     state: SymState,
     conts: &mut Conts,
 ) -> Result<Move, AllocError>
-    ensures { IfOk result (λ v. Stepped (settled program.now) (sides (settled program.now) (rules (settled program.now)) (method m.now) (state_of state)) conts.old.sides.items v conts.new.sides.items) }
+    ensures { IfOk result (λ v. Stepped (settled program.now)
+        (sides (settled program.now) (rules (settled program.now)) (method m.now) (state_of state)) conts.old.sides.items v conts.new.sides.items) }
 {
     let mut state = state;
     state.keep_old()?;
@@ -79,7 +81,8 @@ fn step_outcome(
     state: SymState,
     conts: &mut Conts,
 ) -> Result<Move, AllocError>
-    ensures { IfOk result (λ m. Stepped (settled program.now) (concluding (settled program.now) v.now (held_term value) (state_of state)) conts.old.sides.items m conts.new.sides.items) }
+    ensures { IfOk result (λ m. Stepped (settled program.now) (concluding (settled program.now) v.now (held_term value) (state_of state)) conts.old.sides.items
+        m conts.new.sides.items) }
 {
     let mut state = state;
     vx_states::bind_outcome(alloc, &mut state, value)?;
@@ -104,7 +107,8 @@ fn step_hole(
     state: SymState,
     conts: &mut Conts,
 ) -> Result<Move, AllocError>
-    ensures { IfOk result (λ m. Stepped (settled program.now) (giving (settled program.now) hole.now (held_term value) (state_of state)) conts.old.sides.items m conts.new.sides.items) }
+    ensures { IfOk result (λ m. Stepped (settled program.now) (giving (settled program.now) hole.now (held_term value) (state_of state)) conts.old.sides.items m
+        conts.new.sides.items) }
 {
     match hole {
         Hole::Finish => Ok(Move::End),
@@ -138,7 +142,8 @@ fn step_taken(
     state: SymState,
     conts: &mut Conts,
 ) -> Result<Move, AllocError>
-    ensures { IfOk result (λ m. Stepped (settled program.now) (with_taken (settled program.now) taken.now (held_term value) false (state_of state)) conts.old.sides.items m conts.new.sides.items) }
+    ensures { IfOk result (λ m. Stepped (settled program.now)
+        (with_taken (settled program.now) taken.now (held_term value) false (state_of state)) conts.old.sides.items m conts.new.sides.items) }
 {
     match taken {
         Taken::Value(hole) => step_hole(alloc, program, value, hole, state, conts),
@@ -157,7 +162,9 @@ fn step_fresh(
     state: SymState,
     conts: &mut Conts,
 ) -> Result<Move, AllocError>
-    ensures { IfOk result (λ m. Stepped (settled program.now) (with_taken (settled program.now) taken.now (fresh (sort_view of.now) (state_of state)) false (after_fresh (state_of state))) conts.old.sides.items m conts.new.sides.items) }
+    ensures { IfOk result (λ m. Stepped (settled program.now)
+        (with_taken (settled program.now) taken.now (fresh (sort_view of.now) (state_of state)) false (after_fresh (state_of state))) conts.old.sides.items m
+        conts.new.sides.items) }
 {
     let mut state = state;
     let value = state.new_symbol(alloc, of.copy()?)?;
@@ -174,7 +181,9 @@ fn step_read_over(
     state: SymState,
     conts: &mut Conts,
 ) -> Result<Move, AllocError>
-    ensures { IfOk result (λ m. Stepped (settled program.now) (read_over (settled program.now) (string_bytes field.now.value) (held_term receiver.now) (giving (settled program.now) hole.now) (state_of state)) conts.old.sides.items m conts.new.sides.items) }
+    ensures { IfOk result (λ m. Stepped (settled program.now)
+        (read_over (settled program.now) (string_bytes field.now.value) (held_term receiver.now) (giving (settled program.now) hole.now) (state_of state))
+        conts.old.sides.items m conts.new.sides.items) }
 {
     let Left { value, state } = vx_sums::read_over(alloc, program, field, receiver, state)?;
     step_hole(alloc, program, value, hole, state, conts)
@@ -189,7 +198,9 @@ fn step_take_over(
     state: SymState,
     conts: &mut Conts,
 ) -> Result<Move, AllocError>
-    ensures { IfOk result (λ m. Stepped (settled program.now) (take_over (settled program.now) (string_bytes location.now.field.value) (held_term location.now.receiver) (held_term location.now.amount) (giving (settled program.now) hole.now) (state_of state)) conts.old.sides.items m conts.new.sides.items) }
+    ensures { IfOk result (λ m. Stepped (settled program.now)
+        (take_over (settled program.now) (string_bytes location.now.field.value) (held_term location.now.receiver) (held_term location.now.amount)
+        (giving (settled program.now) hole.now) (state_of state)) conts.old.sides.items m conts.new.sides.items) }
 {
     let Left { value, state } = vx_sums::take_over(alloc, program, location, state)?;
     step_hole(alloc, program, value, hole, state, conts)
@@ -205,7 +216,9 @@ fn step_after(
     state: SymState,
     conts: &mut Conts,
 ) -> Result<Move, AllocError>
-    ensures { IfOk result (λ m. Stepped (settled program.now) (tree.Step (giving_all (settled program.now) row.now.value (held_term first.now ∷ values_of values.value) (state_of state))) conts.old.sides.items m conts.new.sides.items) }
+    ensures { IfOk result (λ m. Stepped (settled program.now)
+        (tree.Step (giving_all (settled program.now) row.now.value (held_term first.now ∷ values_of values.value) (state_of state))) conts.old.sides.items m
+        conts.new.sides.items) }
 {
     let all = Rc::new(alloc, Values::More(first.clone()?, values))?;
     conts.give_all(program, all, row, state)
@@ -223,7 +236,9 @@ fn step_unfold(
     state: SymState,
     conts: &mut Conts,
 ) -> Result<Move, AllocError>
-    ensures { IfOk result (λ m. Stepped (settled program.now) (unfolded (settled program.now) (rules (settled program.now)) place (string_bytes predicate.now.value) (values_of arguments.now.value) (held_term amount.now) (state_of state) (going (settled program.now) next.now.value)) conts.old.sides.items m conts.new.sides.items) }
+    ensures { IfOk result (λ m. Stepped (settled program.now)
+        (unfolded (settled program.now) (rules (settled program.now)) place (string_bytes predicate.now.value) (values_of arguments.now.value)
+        (held_term amount.now) (state_of state) (going (settled program.now) next.now.value)) conts.old.sides.items m conts.new.sides.items) }
 {
     let instance = vx_members::instance_of(alloc, place, predicate, amount, arguments)?;
     vx_probes::unfold(alloc, program, instance, next, state, conts)
@@ -238,7 +253,8 @@ fn step_row(
     state: SymState,
     conts: &mut Conts,
 ) -> Result<Move, AllocError>
-    ensures { IfOk result (λ m. Stepped (settled program.now) (giving_all (settled program.now) row.now (values_of values.value) (state_of state)) conts.old.sides.items m conts.new.sides.items) }
+    ensures { IfOk result (λ m. Stepped (settled program.now)
+        (giving_all (settled program.now) row.now (values_of values.value) (state_of state)) conts.old.sides.items m conts.new.sides.items) }
 {
     match row {
         Row::After(first, row) => step_after(alloc, program, first, values, row, state, conts),

@@ -62,7 +62,8 @@ pub(crate) fn held_at(
     receiver: &Rc<Term>,
     heap: &SymHeap,
 ) -> Result<Rc<Term>, AllocError>
-    ensures { IfOk result (λ t. held_term t ≡ chunks.sum_at (held_term receiver.now) (chunks.candidates (field_key (string_bytes field.now.value) (held_term receiver.now)) (heap_of heap.now))) }
+    ensures { IfOk result (λ t. held_term t ≡ chunks.sum_at (held_term receiver.now)
+        (chunks.candidates (field_key (string_bytes field.now.value) (held_term receiver.now)) (heap_of heap.now))) }
 {
     let all = candidates_at(alloc, field, receiver, heap)?;
     sum_at(alloc, receiver, &all)
@@ -125,7 +126,9 @@ pub(crate) fn held_surely(
     amount: &Option<Rc<Term>>,
     heap: &SymHeap,
 ) -> Result<Option<Candidate>, AllocError>
-    ensures { IfOk result (λ found. option_map candidate found ≡ chunks.surely (wanted_by (optional_term amount.now) (held_term receiver.now ∷ [])) (chosen true (field_key (string_bytes field.now.value) (held_term receiver.now)) 0 (heap_of heap.now))) }
+    ensures { IfOk result (λ found. option_map candidate found
+        ≡ chunks.surely (wanted_by (optional_term amount.now) (held_term receiver.now ∷ []))
+        (chosen true (field_key (string_bytes field.now.value) (held_term receiver.now)) 0 (heap_of heap.now))) }
 {
     let at = field_at(alloc, field, receiver)?;
     let own = heap.own_candidates(alloc, &at.resource, &at.arguments)?;

@@ -24,7 +24,8 @@ pub fn read_over(
     receiver: &Rc<Term>,
     state: SymState,
 ) -> Result<Left, AllocError>
-    ensures { (on : rule.Giving) → IfOk result (λ left. stack.read_over (settled program.now) (string_bytes field.now.value) (held_term receiver.now) on (state_of state) ≡ on (held_term left.value) (state_of left.state)) }
+    ensures { (on : rule.Giving) → IfOk result (λ left. stack.read_over (settled program.now) (string_bytes field.now.value) (held_term receiver.now) on
+        (state_of state) ≡ on (held_term left.value) (state_of left.state)) }
 {
     let mut state = state;
     let all = candidates_at(alloc, field, receiver, &state.heap)?;
@@ -39,7 +40,8 @@ pub fn take_over(
     location: &Location,
     state: SymState,
 ) -> Result<Left, AllocError>
-    ensures { (on : rule.Giving) → IfOk result (λ left. stack.take_over (settled program.now) (string_bytes location.now.field.value) (held_term location.now.receiver) (held_term location.now.amount) on (state_of state) ≡ on (held_term left.value) (state_of left.state)) }
+    ensures { (on : rule.Giving) → IfOk result (λ left. stack.take_over (settled program.now) (string_bytes location.now.field.value)
+        (held_term location.now.receiver) (held_term location.now.amount) on (state_of state) ≡ on (held_term left.value) (state_of left.state)) }
 {
     let mut state = state;
     let receiver = &location.receiver;
@@ -59,7 +61,8 @@ pub fn write_over(
     value: &Rc<Term>,
     state: SymState,
 ) -> Result<SymState, AllocError>
-    ensures { (p : Program) (on : rule.Going) → IfOk result (λ after. stack.write_over p (string_bytes field.now.value) (held_term receiver.now) (held_term value.now) on (state_of state) ≡ on (state_of after)) }
+    ensures { (p : Program) (on : rule.Going) → IfOk result
+        (λ after. stack.write_over p (string_bytes field.now.value) (held_term receiver.now) (held_term value.now) on (state_of state) ≡ on (state_of after)) }
 {
     let mut state = state;
     let all = candidates_at(alloc, field, receiver, &state.heap)?;

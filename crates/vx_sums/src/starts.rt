@@ -34,7 +34,11 @@ fn ask_to_read(
     state: SymState,
     conts: &mut Conts,
 ) -> Result<Move, AllocError>
-    ensures { IfOk result (λ m. Stepped (settled program.now) (rule.ask (less zero_amount (sum_at (held_term receiver) (candidates (field_key (string_bytes field.now.value) (held_term receiver)) (state_of state).heap))) place PermissionCode (state_of state) (read_over (settled program.now) (string_bytes field.now.value) (held_term receiver) (giving (settled program.now) hole.now.value))) conts.old.sides.items m conts.new.sides.items) }
+    ensures { IfOk result (λ m. Stepped (settled program.now)
+        (rule.ask (less zero_amount (sum_at (held_term receiver)
+        (candidates (field_key (string_bytes field.now.value) (held_term receiver)) (state_of state).heap))) place PermissionCode (state_of state)
+        (read_over (settled program.now) (string_bytes field.now.value) (held_term receiver) (giving (settled program.now) hole.now.value)))
+        conts.old.sides.items m conts.new.sides.items) }
 {
     let sum = held_at(alloc, field, &receiver, &state.heap)?;
     let condition = positive(alloc, &sum)?;
@@ -64,7 +68,12 @@ pub fn read(
     state: SymState,
     conts: &mut Conts,
 ) -> Result<Move, AllocError>
-    ensures { IfOk result (λ m. Stepped (settled program.now) (rule.by_sum (holds_some (held_term receiver ∷ [])) (less zero_amount) (field_key (string_bytes field.now.value) (held_term receiver)) place PermissionCode (state_of state) (λ c. giving (settled program.now) hole.now.value c.chunk.value (state_of state)) (read_over (settled program.now) (string_bytes field.now.value) (held_term receiver) (giving (settled program.now) hole.now.value))) conts.old.sides.items m conts.new.sides.items) }
+    ensures { IfOk result (λ m. Stepped (settled program.now)
+        (rule.by_sum (holds_some (held_term receiver ∷ [])) (less zero_amount)
+        (field_key (string_bytes field.now.value) (held_term receiver)) place PermissionCode (state_of state)
+        (λ c. giving (settled program.now) hole.now.value c.chunk.value (state_of state))
+        (read_over (settled program.now) (string_bytes field.now.value) (held_term receiver) (giving (settled program.now) hole.now.value)))
+        conts.old.sides.items m conts.new.sides.items) }
 {
     let own = held_surely(alloc, field, &receiver, &None, &state.heap)?;
     match own {
@@ -85,7 +94,11 @@ fn ask_to_write(
     state: SymState,
     conts: &mut Conts,
 ) -> Result<Move, AllocError>
-    ensures { IfOk result (λ m. Stepped (settled program.now) (rule.ask (less_equal whole_amount (sum_at (held_term receiver) (candidates (field_key (string_bytes field.now.value) (held_term receiver)) (state_of state).heap))) place PermissionCode (state_of state) (write_over (settled program.now) (string_bytes field.now.value) (held_term receiver) (held_term value.now) (going (settled program.now) next.now.value))) conts.old.sides.items m conts.new.sides.items) }
+    ensures { IfOk result (λ m. Stepped (settled program.now)
+        (rule.ask (less_equal whole_amount (sum_at (held_term receiver)
+        (candidates (field_key (string_bytes field.now.value) (held_term receiver)) (state_of state).heap))) place PermissionCode (state_of state)
+        (write_over (settled program.now) (string_bytes field.now.value) (held_term receiver) (held_term value.now)
+        (going (settled program.now) next.now.value))) conts.old.sides.items m conts.new.sides.items) }
 {
     let sum = held_at(alloc, field, &receiver, &state.heap)?;
     let condition = numbers::le(alloc, &whole(alloc)?, &sum)?;
@@ -114,7 +127,9 @@ pub fn write(
     state: SymState,
     conts: &mut Conts,
 ) -> Result<Move, AllocError>
-    ensures { IfOk result (λ m. Stepped (settled program.now) (rule.write_field (string_bytes field.now.value) (held_term receiver) (held_term value.now) place (state_of state) (going (settled program.now) next.now.value)) conts.old.sides.items m conts.new.sides.items) }
+    ensures { IfOk result (λ m. Stepped (settled program.now)
+        (rule.write_field (string_bytes field.now.value) (held_term receiver) (held_term value.now) place (state_of state)
+        (going (settled program.now) next.now.value)) conts.old.sides.items m conts.new.sides.items) }
 {
     let all = Some(whole(alloc)?);
     let own = held_surely(alloc, field, &receiver, &all, &state.heap)?;
@@ -136,7 +151,9 @@ fn own_share(
     location: &Location,
     heap: &SymHeap,
 ) -> Result<Option<Candidate>, AllocError>
-    ensures { IfOk result (λ found. option_map candidate found ≡ surely (wanted_by (Some (held_term location.now.amount)) (held_term location.now.receiver ∷ [])) (chosen true (field_key (string_bytes location.now.field.value) (held_term location.now.receiver)) 0 (heap_of heap.now))) }
+    ensures { IfOk result (λ found. option_map candidate found
+        ≡ surely (wanted_by (Some (held_term location.now.amount)) (held_term location.now.receiver ∷ []))
+        (chosen true (field_key (string_bytes location.now.field.value) (held_term location.now.receiver)) 0 (heap_of heap.now))) }
 {
     let all = Some(location.amount.clone()?);
     held_surely(alloc, &location.field, &location.receiver, &all, heap)
@@ -144,7 +161,9 @@ fn own_share(
 
 /// That the chunks of a location have its amount together.
 fn together(alloc: Global, location: &Location, heap: &SymHeap) -> Result<Rc<Term>, AllocError>
-    ensures { IfOk result (λ t. held_term t ≡ less_equal (held_term location.now.amount) (sum_at (held_term location.now.receiver) (candidates (field_key (string_bytes location.now.field.value) (held_term location.now.receiver)) (heap_of heap.now)))) }
+    ensures { IfOk result (λ t. held_term t ≡ less_equal (held_term location.now.amount)
+        (sum_at (held_term location.now.receiver) (candidates (field_key (string_bytes location.now.field.value) (held_term location.now.receiver))
+        (heap_of heap.now)))) }
 {
     let sum = held_at(alloc, &location.field, &location.receiver, heap)?;
     numbers::le(alloc, &location.amount, &sum)
@@ -161,7 +180,12 @@ fn ask_to_take(
     state: SymState,
     conts: &mut Conts,
 ) -> Result<Move, AllocError>
-    ensures { IfOk result (λ m. Stepped (settled program.now) (rule.ask (less_equal (held_term location.now.value.amount) (sum_at (held_term location.now.value.receiver) (candidates (field_key (string_bytes location.now.value.field.value) (held_term location.now.value.receiver)) (state_of state).heap))) place (code_of code) (state_of state) (take_over (settled program.now) (string_bytes location.now.value.field.value) (held_term location.now.value.receiver) (held_term location.now.value.amount) (giving (settled program.now) hole.now.value))) conts.old.sides.items m conts.new.sides.items) }
+    ensures { IfOk result (λ m. Stepped (settled program.now)
+        (rule.ask (less_equal (held_term location.now.value.amount)
+        (sum_at (held_term location.now.value.receiver) (candidates
+        (field_key (string_bytes location.now.value.field.value) (held_term location.now.value.receiver)) (state_of state).heap))) place (code_of code)
+        (state_of state) (take_over (settled program.now) (string_bytes location.now.value.field.value) (held_term location.now.value.receiver)
+        (held_term location.now.value.amount) (giving (settled program.now) hole.now.value))) conts.old.sides.items m conts.new.sides.items) }
 {
     let condition = together(alloc, location, &state.heap)?;
     let next = Rc::new(alloc, Next::TakeOver(location.clone()?, hole.clone()?))?;
@@ -187,7 +211,13 @@ pub fn take(
     state: SymState,
     conts: &mut Conts,
 ) -> Result<Move, AllocError>
-    ensures { IfOk result (λ m. Stepped (settled program.now) (rule.by_sum (holds_amount (held_term location.now.value.amount) (held_term location.now.value.receiver ∷ [])) (less_equal (held_term location.now.value.amount)) (field_key (string_bytes location.now.value.field.value) (held_term location.now.value.receiver)) place (code_of code) (state_of state) (λ c. giving (settled program.now) hole.now.value c.chunk.value (states.with_heap (reduced c (held_term location.now.value.amount) (state_of state).heap) (state_of state))) (take_over (settled program.now) (string_bytes location.now.value.field.value) (held_term location.now.value.receiver) (held_term location.now.value.amount) (giving (settled program.now) hole.now.value))) conts.old.sides.items m conts.new.sides.items) }
+    ensures { IfOk result (λ m. Stepped (settled program.now)
+        (rule.by_sum (holds_amount (held_term location.now.value.amount) (held_term location.now.value.receiver ∷ []))
+        (less_equal (held_term location.now.value.amount)) (field_key (string_bytes location.now.value.field.value) (held_term location.now.value.receiver))
+        place (code_of code) (state_of state) (λ c. giving (settled program.now) hole.now.value c.chunk.value
+        (states.with_heap (reduced c (held_term location.now.value.amount) (state_of state).heap) (state_of state)))
+        (take_over (settled program.now) (string_bytes location.now.value.field.value) (held_term location.now.value.receiver)
+        (held_term location.now.value.amount) (giving (settled program.now) hole.now.value))) conts.old.sides.items m conts.new.sides.items) }
 {
     let own = own_share(alloc, location, &state.heap)?;
     match own {

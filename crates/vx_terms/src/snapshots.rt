@@ -143,7 +143,8 @@ pub fn written_unwrap(alloc: Global, sort: &Sort, t: &Rc<Term>) -> Result<Rc<Ter
 
 /// The only argument of a term that is a symbol's on one.
 fn only_argument(t: &Term) -> Option<&Rc<Term>>
-    ensures { MatchOption result ((a : Sort') → built.unwrap a (term t.now) ≡ built.written_unwrap a (term t.now)) (λ s. (a : Sort') → built.unwrap a (term t.now) ≡ built.unwrapped a (term s.now.value) (term t.now)) }
+    ensures { MatchOption result ((a : Sort') → built.unwrap a (term t.now) ≡ built.written_unwrap a (term t.now)) (λ s. (a : Sort')
+        → built.unwrap a (term t.now) ≡ built.unwrapped a (term s.now.value) (term t.now)) }
 {
     match t {
         Term::Apply(_, _, arguments) => match &**arguments {

@@ -259,7 +259,8 @@ fn group_measured(
     requires table { table g.members.now.entries ≡ table_of (map written_member g.all.now) }
     requires kinds { (b : Bool) → AreMarks (map written_member g.all.now) (roots g.groups.now) b (length g.all.now) (marks kinds.now b) }
     requires root { root.0 < length g.all.now }
-    ensures { (a : ℕ) → root_at (roots g.entry.groups.now) a ≡ Some root → Gives (λ x. tt) result (first.group_measured (map written_member g.entry.all.now) a at (shown measure.entry)) }
+    ensures { (a : ℕ) → root_at (roots g.entry.groups.now) a ≡ Some root
+        → Gives (λ x. tt) result (first.group_measured (map written_member g.entry.all.now) a at (shown measure.entry)) }
 {
     let by_instance = own_measure(g.members, at, measure)?;
     if kinds.has(root, !by_instance) {

@@ -279,7 +279,8 @@ fn contract_and_body<'a>(
     after: &mut Variables<'a>,
     m: &'a Method,
 ) -> Result<(), TypeFault>
-    ensures { Gives (λ x. tt) result (first.contract_and_body (table members.now.entries) (known before.now.entries) (known after.old.entries) (map written_clause m.now.clauses.items) (optional_block m.now.body)) }
+    ensures { Gives (λ x. tt) result (first.contract_and_body (table members.now.entries) (known before.now.entries) (known after.old.entries)
+        (map written_clause m.now.clauses.items) (optional_block m.now.body)) }
 {
     contracts(alloc, members, before, after, &m.clauses)?;
     statements(alloc, members, after, &m.body)
