@@ -147,17 +147,21 @@ fn put_turn<N: Turns>(turns: &mut N, waiting: usize, text: &mut Text)
     text.natural(turns.pick(waiting) as u128);
 }
 
-// The turns where 2, 2 and 3 wait.
-fn put_three<N: Turns>(turns: &mut N, text: &mut Text) {
+// The turns where so many wait, then as many, and then so many at last.
+fn put_three<N: Turns>(turns: &mut N, waiting: usize, at_last: usize, text: &mut Text)
+    requires { 0 < waiting }
+    requires { 0 < at_last }
+{
     text.break_line();
-    put_turn(turns, 2, text);
+    put_turn(turns, waiting, text);
     text.put(" ");
-    put_turn(turns, 2, text);
+    put_turn(turns, waiting, text);
     text.put(" ");
-    put_turn(turns, 3, text);
+    put_turn(turns, at_last, text);
 }
 
-/// The turns of a list where 2, 2 and 3 wait, and those that go round; false: it is no list of numbers.
+/// The turns of a list where 2, 2 and 3 wait, and those that go round, where of 3 the one picked last ends, too; false: it is no
+/// list of numbers.
 ///
 /// # Errors
 /// Want of memory.
@@ -169,7 +173,8 @@ pub fn put_turns(alloc: Global, list: &str, text: &mut Text) -> Result<bool, All
         };
         turns.push(turn)?;
     }
-    put_three(&mut TurnList::new(turns), text);
-    put_three(&mut RoundRobin::new(), text);
+    put_three(&mut TurnList::new(turns), 2, 3, text);
+    put_three(&mut RoundRobin::new(), 2, 3, text);
+    put_three(&mut RoundRobin::new(), 3, 2, text);
     Ok(true)
 }

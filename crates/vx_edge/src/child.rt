@@ -1,9 +1,12 @@
 // Child processes behind pipes.
 ghost use Rattle.std.specs.Prelude.{◌≡◌, ℕ, ◌+◌, ◌≤◌, ◌==◌, [], vec_len, vec_capacity, count_by, false, IfOk};
 
+use libc::net::{POLLIN, poll};
+use libc::types::pollfd;
 use std::alloc::{AllocError, Global};
 use std::io;
 use std::io::{ErrorKind, Read, Write};
+use std::os::fd::{AsRawFd, RawFd};
 use std::process::{Child, Command, OpenProcess, Processes, Stdio};
 use vx_ends::{Ending, Link, LinkFault, Parts, Record, Spawner, Start, StartFault, remove_once};
 
@@ -94,6 +97,25 @@ impl Link for ChildLink {
     }
 }
 
+// The output of a child that is out, and its lane.
+#[derive(Clone, Copy)]
+struct Output {
+    lane: u32,
+    fd: RawFd,
+}
+
+// So many outputs are looked at, at once.
+const MOST: usize = 16;
+
+// A descriptor that is asked whether something is there to be read.
+fn asked(fd: RawFd) -> pollfd {
+    pollfd {
+        fd,
+        events: POLLIN,
+        revents: 0,
+    }
+}
+
 /// Starts child processes, with piped standard input and output.
 #[derive(Drop)]
 pub struct ChildSpawner<'a> {
@@ -101,6 +123,7 @@ pub struct ChildSpawner<'a> {
     starts: Vec<Start>,
     // the lane of each link that is out
     lanes_out: Vec<u32>,
+    outputs: Vec<Output>,
     ended: Vec<Ending>,
     faults: u64,
     ghost room: { vec_len ended + vec_len lanes_out ≤ vec_capacity ended },
@@ -118,6 +141,7 @@ impl<'a> ChildSpawner<'a> {
             processes,
             starts: Vec::new(alloc),
             lanes_out: Vec::new(alloc),
+            outputs: Vec::new(alloc),
             ended: Vec::new(alloc),
             faults: 0,
         }
@@ -164,6 +188,7 @@ impl Spawner for ChildSpawner<'_> {
         let room = self.lanes_out.len() + 1;
         self.ended.reserve(room)?;
         self.starts.reserve(1)?;
+        self.outputs.reserve(1)?;
         let buffer = read_buffer(alloc)?;
         let child = spawn(alloc, self.processes, command);
         if let Err(error) = &child
@@ -182,6 +207,11 @@ impl Spawner for ChildSpawner<'_> {
             && let Some(input) = child.stdin.take()
             && let Some(output) = child.stdout.take()
         {
+            let fd = output.as_raw_fd();
+            match self.outputs.push(Output { lane, fd }) {
+                Ok(()) => {}
+                Err(_) => unreachable!(),
+            }
             return match self.lanes_out.push(lane) {
                 Ok(()) => Ok(ChildLink {
                     child,
@@ -204,13 +234,16 @@ impl Spawner for ChildSpawner<'_> {
         let ChildLink {
             mut child,
             input,
-            output: _,
+            output,
             buffer: _,
             ready: _,
             pieces,
             faults,
         } = link;
+        let fd = output.as_raw_fd();
+        self.outputs.retain(|it| it.fd != fd);
         drop(input);
+        drop(output);
         let _ = child.kill();
         let _ = child.wait();
         let ending = Ending {
@@ -222,5 +255,24 @@ impl Spawner for ChildSpawner<'_> {
             Ok(()) => {}
             Err(_) => unreachable!(),
         }
+    }
+
+    fn is_ready(&self, lane: u32) -> bool {
+        let Some(output) = self.outputs.iter().find(|it| it.lane == lane) else {
+            return false;
+        };
+        poll(&mut [asked(output.fd)], 0) > 0
+    }
+
+    fn wait(&self) {
+        let outputs = &self.outputs;
+        if outputs.is_empty() || outputs.len() > MOST {
+            return;
+        }
+        let mut all = [asked(-1); MOST];
+        for (place, output) in all.iter_mut().zip(outputs) {
+            place.fd = output.fd;
+        }
+        let _ = poll(&mut all, -1);
     }
 }

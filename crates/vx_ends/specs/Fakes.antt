@@ -1,5 +1,5 @@
 -- What the ends in memory show of themselves.
-use Rattle.std.specs.Prelude.{ℕ, ◌+◌, ◌-◌, ◌^◌, ◌<◌, ◌⊎◌, min, Contains, Bool, List, [], ◌∷◌, ◌++◌, take, drop, length, Option}
+use Rattle.std.specs.Prelude.{ℕ, ◌+◌, ◌-◌, ◌%◌, ◌^◌, ◌<◌, ◌⊎◌, min, nat_lt, if◌then◌else◌, Contains, Bool, List, [], ◌∷◌, ◌++◌, take, drop, length, Option}
 use Rattle.vx_sexp.specs.Finished.{finished}
 use Rattle.vx_ends.specs.Dialogue.{sent, got}
 use Rattle.vx_ends.specs.declared.memory.NamedText.{NamedText}
@@ -52,6 +52,15 @@ pub record ScriptStarts : Type 0 where
   pub lanes_out : List ℕ
   pub ended : List Ending
   pub faults : ℕ
+
+-- turns that go round: the place behind the one picked last, and how many waited then
+pub record Round : Type 0 where
+  pub at : ℕ
+  pub waited : ℕ
+
+-- the place of the first that waits behind the one picked last; where fewer wait, that one has ended, and the next one has its place
+abbrev pub turn_behind : Round → ℕ → ℕ
+turn_behind round waiting = (if nat_lt waiting round.waited then round.at - 1 else round.at) % waiting
 
 -- texts, one behind the other
 abbrev pub joined : List (List ℕ) → List ℕ
