@@ -1,3 +1,4 @@
+pub mod Deeds
 pub mod Causes
 pub mod Answers
 pub mod Few

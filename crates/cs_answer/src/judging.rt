@@ -1,26 +1,28 @@
 //! What makes an answer: the checker finishes a certificate, an evaluation makes all assertions true, or a cause of an
 //! undecided check is looked at again.
-ghost use Rattle.std.specs.Prelude.{◌≡◌, ◌↔◌, ◌&&◌, Err, IfOk, IfErr, IfSome, IsSome, OnOk, map};
+ghost use Rattle.std.specs.Prelude.{◌≡◌, ◌↔◌, ◌&&◌, [], Err, IfOk, IfErr, IfSome, IsSome, OnOk, map};
+ghost use Rattle.std.specs.Bool.{Decides};
 ghost use Rattle.std.specs.Global.{Vec};
 ghost use Rattle.vx_terms.specs.Interpretations.{Each};
 ghost use Rattle.cs_numbers.specs.Laws.{IsSorted};
 ghost use Rattle.cs_proof.specs.Answers.{Answers};
 ghost use Rattle.cs_certificate.specs.Certificate as certificates;
-ghost use Rattle.cs_proof.specs.Checking.{Verdict, refusal as verdict_of};
+ghost use Rattle.cs_proof.specs.Checking.{Verdict, NotEmpty, refusal as verdict_of};
 ghost use Rattle.cs_proof.specs.declared.step.Step.{Step};
 ghost use Rattle.cs_proof.specs.CheckerView.{Closes};
 ghost use Rattle.cs_proof.specs.Fits.{seen};
 ghost use Rattle.cs_proof.specs.Views.{written};
 ghost use Rattle.cs_sums.specs.declared.stop.Stop.TheVariants as stops;
-ghost use Rattle.cs_meter.specs.Units.{limit};
 ghost use Rattle.cs_model.specs.declared.tables.Model.{Model};
 ghost use Rattle.cs_answer.specs.Causes.{IsCause, is_nonlinear_at, has_number};
 ghost use Rattle.cs_answer.specs.Answers.{IsRight};
-ghost use Rattle.cs_answer.specs.Judged.{HasCause, IsByText, IsByChecker, IsByModel, IsModel};
+ghost use Rattle.cs_answer.specs.Judged.{IsByText, IsByChecker, IsByModel, IsModel, ShowsWork, IsByStop};
 
 use crate::answer::{Answer, Cause};
+use crate::deeds::{WANTED, deed_count};
+use crate::large::has_large;
 use crate::nonlinear::{has_number, is_nonlinear_at};
-use cs_meter::{LIMIT, Meter, leaves};
+use cs_meter::leaves;
 use cs_model::{Model, is_model};
 use cs_proof::{Checker, Stack, Step, Want, finished_refutes};
 use cs_reader::{Refusal, SymbolIndex, Symbols};
@@ -130,48 +132,75 @@ pub fn evaluated(
     }
 }
 
-/// The cause of an attempt that took all units, where it did.
-fn by_budget(meter: &Meter) -> Result<Option<Cause>, Want>
-    ensures cause { (stack : certificates.Stack) → IfOk result (λ found. IfSome found (IsCause stack)) }
-    ensures known { IfOk result (λ found. IsSome found ↔ (meter.now.spent ≡ limit)) }
+/// Whether the checker says that no empty clause was derived.
+fn is_not_empty(told: Result<(), Refusal>) -> bool
+    ensures { Decides result (Closes told NotEmpty) }
 {
-    if meter.spent() == LIMIT {
-        Ok(Some(Cause::Budget(meter.clone()?)))
+    match told {
+        Err(Refusal::NotEmpty) => true,
+        Err(Refusal::BadStep(_) | Refusal::Over(_, _, _, _) | Refusal::BadForm(_)) => false,
+        Ok(()) => false,
+    }
+}
+
+/// Whether all steps hold, and none derives the empty clause.
+fn are_open(alloc: Global, stack: &Stack, steps: &[Step]) -> Result<bool, Want>
+    ensures { IfOk result (λ b. Each IsSorted (seen stack.now).assertions → Decides b (Answers (seen stack.now) (map written steps.now) NotEmpty)) }
+{
+    match verdict(alloc, stack, steps) {
+        Ok(told) => Ok(is_not_empty(told)),
+        Err(_) => Err(Want),
+    }
+}
+
+/// The cause of an attempt that did all that it may, where its steps show it.
+fn by_work(alloc: Global, stack: &Stack, steps: &[Step]) -> Result<Option<Cause>, Want>
+    ensures cause { IfOk result (λ found. IfSome found (IsCause (seen stack.now))) }
+    ensures known { Each IsSorted (seen stack.now).assertions → IfOk result (λ found. IsSome found ↔ ShowsWork (seen stack.now) steps.now) }
+{
+    if deed_count(steps) < WANTED {
+        return Ok(None);
+    }
+    if are_open(alloc, stack, steps)? {
+        Ok(Some(Cause::Budget))
     } else {
         Ok(None)
     }
 }
 
-/// The cause of an attempt that met a call which leaves 128 bits, where it does so again, and there are numbers.
+/// The cause of an attempt that met a call which leaves 128 bits, where it does so again, there are numbers, and a literal is large.
 fn by_call(alloc: Global, stack: &Stack, call: Over) -> Result<Option<Cause>, Want>
     ensures cause { IfOk result (λ found. IfSome found (IsCause (seen stack.now))) }
-    ensures known { IfOk result (λ found. IsSome found ↔ HasCause (seen stack.now) 0 (stops.Over call)) }
+    ensures known { IfOk result (IsByStop (seen stack.now) [] (stops.Over call)) }
 {
-    if leaves(call) && has_number(alloc, &stack.assertions)? {
+    if leaves(call)
+        && has_number(alloc, &stack.assertions)?
+        && has_large(alloc, &stack.assertions)?
+    {
         Ok(Some(Cause::Over(call)))
     } else {
         Ok(None)
     }
 }
 
-/// The cause of an attempt that stopped, if it has one.
+/// The cause of an attempt that stopped after these steps, if it has one. One that ends with nothing that can be shown has done what it may
+/// where its steps show so many deeds, as one that has spent its units.
 ///
 /// # Errors
 /// Want of memory is no cause.
 pub fn stopped(
     alloc: Global,
     stack: &Stack,
-    meter: &Meter,
+    steps: &[Step],
     stop: Stop,
 ) -> Result<Option<Cause>, Want>
     ensures cause { IfOk result (λ found. IfSome found (IsCause (seen stack.now))) }
-    ensures known { IfOk result (λ found. IsSome found ↔ HasCause (seen stack.now) meter.now.spent stop) }
+    ensures known { IfOk result (IsByStop (seen stack.now) steps.now stop) }
     ensures other { OnOk result (stop ≡ Stop.Want → ⊥) }
 {
     match stop {
-        Stop::Budget => by_budget(meter),
+        Stop::Budget | Stop::Miss => by_work(alloc, stack, steps),
         Stop::Over(call) => by_call(alloc, stack, call),
-        Stop::Miss => Ok(None),
         Stop::Want => Err(Want),
     }
 }

@@ -3,9 +3,11 @@
 #![tactic(auto)]
 
 mod answer;
+mod deeds;
 mod few;
 mod formed;
 mod judging;
+mod large;
 mod nonlinear;
 
 pub use answer::{Answer, Cause};

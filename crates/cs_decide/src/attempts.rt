@@ -1,77 +1,99 @@
-//! Attempts: where one ends with nothing that can be shown, another one prefers other signs. Each further attempt takes units,
-//! so at last all are spent.
-ghost use Rattle.std.specs.Prelude.{◌≡◌, ◌<◌, ◌≤◌, Err, IfOk, IfSome, OnOk, OnErr};
+//! Attempts: where one ends with nothing that can be shown, another one prefers other signs. The last one begins with cases of the numbers,
+//! as many as the deeds that are wanted of an attempt.
+ghost use Rattle.std.specs.Prelude.{◌≡◌, IfOk, IfSome};
 ghost use Rattle.vx_terms.specs.Interpretations.{Each};
-ghost use Rattle.cs_meter.specs.Units.{limit};
 ghost use Rattle.cs_numbers.specs.Laws.{IsSorted};
 ghost use Rattle.cs_proof.specs.Fits.{seen};
 ghost use Rattle.cs_answer.specs.Answers.{IsRefutation, IsSatisfaction, IsCaused, IsRight};
 ghost use Rattle.cs_answer.specs.Causes.{IsCause};
 ghost use Rattle.cs_answer.specs.Few.{IsFew, IsDecided};
 ghost use Rattle.cs_opposites.specs.Opposites.{HasOpposites};
+ghost use Rattle.cs_certificate.specs.Certificate as certificates;
 ghost use Rattle.cs_decide.specs.Refuted.{IsRefuted};
+ghost use Rattle.cs_decide.specs.Tried.{IsRightlyTried};
 
+use crate::check::{Attempt, Stopped};
 use crate::settled::settled;
 use crate::turns::decided;
 use cs_answer::{Answer, Cause, stopped};
-use cs_meter::{Budget, Meter};
 use cs_opposites::{opposed, opposites_refute};
 use cs_proof::{Stack, Want};
+use cs_sums::Stop;
 use std::alloc::Global;
 
-/// So many units the first further attempt takes, and each one so many more than the one before it.
-const PRICE: u32 = 1_000;
+/// So many attempts are made before the last one.
+const ATTEMPTS: u32 = 12;
 
-/// Takes the units of a further attempt: at least one.
-///
-/// # Errors
-/// `Budget` where too few are left: all are spent then.
-fn pay(meter: &mut Meter, attempt: u32) -> Result<(), Budget>
-    ensures paid { OnOk result (meter.old.spent < meter.new.spent) }
-    ensures spent { OnErr result (meter.new.spent ≡ limit) }
-{
-    meter.spend_many(attempt.saturating_mul(PRICE).saturating_add(1))
+/// What an attempt leads to.
+#[derive(Drop)]
+enum Tried {
+    Answered(Answer),
+    /// Its units are spent, though its steps don't show so many deeds; or a call left 128 bits, though no literal is large.
+    Spent,
+    /// It ended with nothing that can be shown.
+    Missed,
 }
 
-/// One attempt: an answer, or none where another one may find one.
-fn attempted(
-    alloc: Global,
-    stack: &Stack,
-    attempt: u32,
-    meter: &mut Meter,
-) -> Result<Option<Answer>, Want>
-    ensures right { IfOk result (λ found. IfSome found (IsRight (seen stack.now))) }
-    ensures kept { OnOk result (meter.old.spent ≤ meter.new.spent) }
+/// The cause of an attempt that stopped, as its answer; or what it led to.
+fn caused(alloc: Global, stack: &Stack, end: Stopped) -> Result<Tried, Want>
+    ensures { IfOk result (IsRightlyTried (seen stack.now)) }
 {
-    match decided(alloc, stack, attempt, meter) {
-        Ok(answer) => Ok(Some(answer)),
-        Err(stop) => match stopped(alloc, stack, meter, stop)? {
-            Some(cause) => Ok(Some(Answer::Unknown(cause))),
-            None => Ok(None),
-        },
+    let Stopped { stop, steps } = end;
+    match stopped(alloc, stack, &steps, stop)? {
+        Some(cause) => Ok(Tried::Answered(Answer::Unknown(cause))),
+        None => Ok(without_cause(stop)),
     }
 }
 
-/// The answer, by as many attempts as there are units for.
-fn answered(alloc: Global, stack: &Stack) -> Result<Answer, Want>
-    ensures { IfOk result (IsRight (seen stack.now)) }
+fn without_cause(stop: Stop) -> Tried
+    ensures { (stack : certificates.Stack) → IsRightlyTried stack result }
 {
-    let mut meter = Meter::new();
-    let mut attempt: u32 = 0;
-    loop {
-        if let Some(answer) = attempted(alloc, stack, attempt, &mut meter)? {
-            return Ok(answer);
-        }
-        attempt = attempt.saturating_add(1);
-        if let Err(Budget) = pay(&mut meter, attempt) {
-            return Ok(Answer::Unknown(Cause::Budget(meter)));
-        }
+    match stop {
+        Stop::Budget | Stop::Over(_) => Tried::Spent,
+        Stop::Miss | Stop::Want => Tried::Missed,
     }
 }
 
-/// The answer of a stack that attempts leave undecided by this cause: `false`, or a term and its negation, refute it.
-fn undecided(alloc: Global, stack: &Stack, cause: Cause) -> Result<Answer, Want>
-    requires { IsCause (seen stack.now) cause }
+/// One attempt.
+fn attempted(alloc: Global, stack: &Stack, attempt: Attempt) -> Result<Tried, Want>
+    ensures { IfOk result (IsRightlyTried (seen stack.now)) }
+{
+    match decided(alloc, stack, attempt) {
+        Ok(answer) => Ok(Tried::Answered(answer)),
+        Err(end) => caused(alloc, stack, end),
+    }
+}
+
+/// The answer of the first attempts, if one of them has it. One that has spent its units is the last of them.
+fn by_attempts(alloc: Global, stack: &Stack) -> Result<Option<Answer>, Want>
+    ensures { IfOk result (λ found. IfSome found (IsRight (seen stack.now))) }
+{
+    for attempt in 0..ATTEMPTS {
+        match attempted(alloc, stack, Attempt::Signs(attempt))? {
+            Tried::Answered(answer) => return Ok(Some(answer)),
+            Tried::Spent => return Ok(None),
+            Tried::Missed => {}
+        }
+    }
+    Ok(None)
+}
+
+/// The answer of all attempts, if one of them has it.
+fn answered(alloc: Global, stack: &Stack) -> Result<Option<Answer>, Want>
+    ensures { IfOk result (λ found. IfSome found (IsRight (seen stack.now))) }
+{
+    if let Some(answer) = by_attempts(alloc, stack)? {
+        return Ok(Some(answer));
+    }
+    match attempted(alloc, stack, Attempt::Cases)? {
+        Tried::Answered(answer) => Ok(Some(answer)),
+        Tried::Spent | Tried::Missed => Ok(None),
+    }
+}
+
+/// The answer of a stack that attempts leave undecided, by this cause if there is one: `false`, or a term and its negation, refute it.
+fn undecided(alloc: Global, stack: &Stack, cause: Option<Cause>) -> Result<Answer, Want>
+    requires { IfSome cause (IsCause (seen stack.now)) }
     ensures right { IfOk result (IsRight (seen stack.now)) }
     ensures few { IsFew (seen stack.now) → IfOk result IsDecided }
     ensures opposed { HasOpposites (seen stack.now).assertions → IfOk result IsRefuted }
@@ -83,6 +105,21 @@ fn undecided(alloc: Global, stack: &Stack, cause: Cause) -> Result<Answer, Want>
     }
 }
 
+/// The answer of an attempt, unless it leaves the stack undecided where another one is due.
+fn concluded(alloc: Global, stack: &Stack, answer: Answer) -> Result<Answer, Want>
+    requires { IsRight (seen stack.now) answer }
+    ensures right { IfOk result (IsRight (seen stack.now)) }
+    ensures few { IsFew (seen stack.now) → IfOk result IsDecided }
+    ensures opposed { HasOpposites (seen stack.now).assertions → IfOk result IsRefuted }
+{
+    opposites_refute();
+    match answer {
+        Answer::Refuted(steps) => Ok(Answer::Refuted(steps)),
+        Answer::Satisfied(model) => Ok(Answer::Satisfied(model)),
+        Answer::Unknown(cause) => undecided(alloc, stack, Some(cause)),
+    }
+}
+
 /// Decides the assertions of a stack. Numbers have the rules of linear arithmetic; a product of two terms that aren't literals, and
 /// a quotient or a remainder by such a term, is a term as any other. What is answered is right. Where the assertions are writable, no term
 /// is a number and at most ten are Bool, the answer is never `Unknown`: what attempts leave undecided is then decided by all clauses of
@@ -90,7 +127,7 @@ fn undecided(alloc: Global, stack: &Stack, cause: Cause) -> Result<Answer, Want>
 /// and its negation.
 ///
 /// # Errors
-/// `Want` where memory runs out.
+/// `Want` where memory runs out, or where no attempt ends with what can be shown.
 pub fn decide(alloc: Global, stack: &Stack) -> Result<Answer, Want>
     // over well-sorted assertions
     ensures refuted { Each IsSorted (seen stack.now).assertions → IfOk result (IsRefutation (seen stack.now)) }
@@ -99,10 +136,8 @@ pub fn decide(alloc: Global, stack: &Stack) -> Result<Answer, Want>
     ensures few { IsFew (seen stack.now) → IfOk result IsDecided }
     ensures opposed { HasOpposites (seen stack.now).assertions → IfOk result IsRefuted }
 {
-    opposites_refute();
     match answered(alloc, stack)? {
-        Answer::Refuted(steps) => Ok(Answer::Refuted(steps)),
-        Answer::Satisfied(model) => Ok(Answer::Satisfied(model)),
-        Answer::Unknown(cause) => undecided(alloc, stack, cause),
+        Some(answer) => concluded(alloc, stack, answer),
+        None => undecided(alloc, stack, None),
     }
 }

@@ -6,12 +6,12 @@ ghost use Rattle.cs_decide.specs.New.{AreUntrue, HasNewClause};
 use crate::check::Check;
 use crate::figures::Cases;
 use crate::signs::prefer;
-use cs_sums::Stop;
 use cs_search::add::add;
 use cs_search::assignment::Assignment;
 use cs_search::examine::status;
 use cs_search::search::Search;
 use cs_search::{Clause, Literal, Status};
+use cs_sums::Stop;
 use std::alloc::Global;
 
 /// Whether none of the literals is true.

@@ -4,6 +4,7 @@ ghost use Rattle.cs_proof.specs.Fits.{seen};
 ghost use Rattle.cs_answer.specs.Answers.{IsRight};
 ghost use Rattle.cs_decide.specs.Spent.{SpendsOnCases};
 
+use crate::beginning::{CASES, put_cases};
 use crate::elements::Sources;
 use crate::figures::{Cases, Figures, Found};
 use crate::misread::misread;
@@ -11,9 +12,8 @@ use crate::model::model_of;
 use cs_answer::{Answer, certified, evaluated};
 use cs_claims::claims::{Claim, Claims};
 use cs_claims::shortcuts::Shortcuts;
-use cs_sums::Stop;
 use cs_meter::Meter;
-use cs_proof::Stack;
+use cs_proof::{Stack, Step};
 use cs_record::assembly::assembled;
 use cs_record::atoms::Atoms;
 use cs_record::clauses::Clauses;
@@ -23,11 +23,27 @@ use cs_record::orders::put_orders;
 use cs_search::assignment::Assignment;
 use cs_search::search::{Hints, Search};
 use cs_search::{Clause, Literal, Value};
+use cs_sums::Stop;
 use std::alloc::Global;
 use std::rc::Rc;
 use vx_terms::Term;
 
+/// How an attempt begins: with other signs of the atoms, but for the first one; or with cases of the numbers.
+#[derive(Clone, Copy)]
+pub(crate) enum Attempt {
+    Signs(u32),
+    Cases,
+}
+
+/// An attempt stopped after these steps.
+#[derive(Drop)]
+pub(crate) struct Stopped {
+    pub(crate) stop: Stop,
+    pub(crate) steps: Vec<Step>,
+}
+
 /// A check under way, but for its search.
+#[derive(Drop)]
 pub(crate) struct Check {
     pub(crate) record: Record,
     pub(crate) atoms: Atoms,
@@ -40,21 +56,8 @@ pub(crate) struct Check {
     figures: Figures,
     // how many terms are those of the assertions
     pub(crate) live: u32,
-}
-
-impl Drop for Check {
-    fn drop(self) {
-        let Self {
-            record,
-            atoms,
-            numbers,
-            told,
-            claims,
-            shortcuts,
-            figures,
-            live,
-        } = self;
-    }
+    // of so many steps that may be deeds it is looked at whether they are
+    shown: u32,
 }
 
 /// The clauses of the assertions, and of the first terms.
@@ -64,12 +67,50 @@ fn put_all(
     record: &mut Record,
     assertions: &[Rc<Term>],
     live: u32,
+    attempt: Attempt,
 ) -> Result<(), Stop> {
+    if let Attempt::Cases = attempt {
+        put_cases(alloc, clauses, record, live)?;
+    }
     clauses.put_inputs(alloc, record, assertions)?;
     clauses.put_definitions(alloc, record, live)?;
     clauses.put_choices(alloc, record, live)?;
     clauses.put_divisions(alloc, record, live)?;
     Ok(put_orders(alloc, clauses, record, live)?)
+}
+
+/// Of so many steps that may be deeds it is looked at whether they are: of those with which the attempt begins, or of four times as many as are
+/// wanted.
+fn shown_of(attempt: Attempt) -> u32 {
+    match attempt {
+        Attempt::Signs(_) => 4 * CASES,
+        Attempt::Cases => CASES,
+    }
+}
+
+/// Whether a step derives a clause by a sum or by hints, or tells cases of numbers.
+fn is_work(step: &Step) -> bool {
+    match step {
+        Step::Farkas(_, _) | Step::Propagate(_, _) => true,
+        Step::Split(_, _) | Step::Trichotomy(_, _) => true,
+        _ => false,
+    }
+}
+
+/// Leaves out what is behind so many steps that may be deeds.
+fn cut(steps: &mut Vec<Step>, shown: u32) {
+    let mut left = shown;
+    let mut count: usize = 0;
+    for step in steps.iter() {
+        if left == 0 {
+            break;
+        }
+        if is_work(step) {
+            left -= 1;
+        }
+        count = count.saturating_add(1);
+    }
+    steps.truncate(count);
 }
 
 impl Check {
@@ -79,6 +120,7 @@ impl Check {
         mut record: Record,
         clauses: Clauses,
         live: u32,
+        shown: u32,
     ) -> Result<(Check, Vec<Clause>), Stop> {
         let claims = Claims::new(alloc, &mut record, &clauses.atoms)?;
         let figures = Figures::new(alloc, &record, &clauses.atoms)?;
@@ -97,17 +139,45 @@ impl Check {
             shortcuts: Shortcuts::new(alloc),
             figures,
             live,
+            shown,
         };
         Ok((check, clauses))
     }
 
     /// The clauses of a stack, and a check that has them.
-    pub(crate) fn new(alloc: Global, stack: &Stack) -> Result<(Check, Vec<Clause>), Stop> {
+    pub(crate) fn new(
+        alloc: Global,
+        stack: &Stack,
+        attempt: Attempt,
+    ) -> Result<(Check, Vec<Clause>), Stop> {
         let mut record = Record::new(alloc, &stack.assertions)?;
         let live = record.count()?;
         let mut clauses = Clauses::new(alloc, &record)?;
-        put_all(alloc, &mut clauses, &mut record, &stack.assertions, live)?;
-        Check::over(alloc, record, clauses, live)
+        put_all(
+            alloc,
+            &mut clauses,
+            &mut record,
+            &stack.assertions,
+            live,
+            attempt,
+        )?;
+        Check::over(alloc, record, clauses, live, shown_of(attempt))
+    }
+
+    /// The check stops. Where something wasn't claimed, this may be why.
+    pub(crate) fn stopped(self, stop: Stop) -> Stopped {
+        let Check {
+            record,
+            figures,
+            shown,
+            ..
+        } = self;
+        let mut steps = record.into_steps();
+        cut(&mut steps, shown);
+        Stopped {
+            stop: figures.excused(stop),
+            steps,
+        }
     }
 
     /// The numbers of clauses in the certificate, from the last one to the first.

@@ -3,11 +3,10 @@
 
 use crate::elements::Sources;
 use cs_claims::held::key_of_applied;
-use cs_sums::Stop;
 use cs_index::{Index, mix, mix_wide};
 use cs_model::Element;
 use cs_record::numbered::Record;
-use cs_sums::numbers_of;
+use cs_sums::{Stop, numbers_of};
 use cs_table::Node;
 use std::alloc::Global;
 

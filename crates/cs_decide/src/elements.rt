@@ -2,11 +2,11 @@
 
 use crate::figures::Figures;
 use cs_claims::claims::{Claims, value_of};
-use cs_sums::Stop;
 use cs_model::Element;
 use cs_record::atoms::Atoms;
 use cs_record::numbered::Record;
 use cs_search::Value;
+use cs_sums::Stop;
 use std::alloc::Global;
 use vx_terms::Sort;
 

@@ -7,7 +7,6 @@ use crate::elements::Sources;
 use crate::products::{misread_factor, product_cases};
 use cs_claims::claims::{Claims, value_of};
 use cs_claims::farkas::refutation_of;
-use cs_sums::{Split, Stop};
 use cs_meter::{Budget, Meter};
 use cs_record::atoms::Atoms;
 use cs_record::cases::{order, parted};
@@ -15,7 +14,7 @@ use cs_record::draft::Lemma;
 use cs_record::numbered::Record;
 use cs_search::assignment::Assignment;
 use cs_search::{Entry, Value};
-use cs_sums::{Arithmetic, Contradiction, Share, numbers_of};
+use cs_sums::{Arithmetic, Contradiction, Share, Split, Stop, numbers_of};
 use std::alloc::Global;
 use vx_frac::{Frac, Over};
 
@@ -38,6 +37,8 @@ pub struct Figures {
     products: u32,
     // the first call that left 128 bits: what it was needed for isn't claimed
     over: Option<Over>,
+    // of the turns of the arithmetic, which aren't those of the search
+    pivots: Meter,
 }
 
 /// How often the comparisons of the greatest numbers are left out at most: each time, those whose numbers have at least half as many
@@ -96,6 +97,7 @@ impl Figures {
             told: 0,
             products: PRODUCT_CASES,
             over: None,
+            pivots: Meter::new(),
         };
         for number in 0..count {
             if atoms.find(number).is_some() {
@@ -231,12 +233,9 @@ impl Figures {
         alloc: Global,
         record: &Record,
         claims: &Claims,
-        meter: &mut Meter,
-    ) -> Result<Option<Contradiction>, Stop>
-        ensures { meter.old.spent ≤ meter.new.spent }
-    {
+    ) -> Result<Option<Contradiction>, Stop> {
         for _ in 0..=self.terms.len() {
-            if let Some(found) = self.arithmetic.check(alloc, meter)? {
+            if let Some(found) = self.arithmetic.check(alloc, &mut self.pivots)? {
                 return Ok(Some(found));
             }
             match self.join(alloc, record, claims)? {
@@ -324,7 +323,7 @@ impl Figures {
             let lemma = refutation_of(alloc, record, claims, &shares)?;
             return Ok(Found::Lemma(lemma));
         }
-        if let Some(found) = self.settle(alloc, record, claims, meter)? {
+        if let Some(found) = self.settle(alloc, record, claims)? {
             return self.refuted(alloc, record, atoms, claims, meter, &found);
         }
         match self.cases(alloc, record, atoms, &made.values, claims)? {

@@ -11,7 +11,6 @@ use crate::signs::prefer;
 use cs_answer::Answer;
 use cs_claims::claims::Claim;
 use cs_claims::lemma::lemma_of;
-use cs_sums::Stop;
 use cs_meter::Meter;
 use cs_proof::Stack;
 use cs_record::draft::Lemma;
@@ -21,6 +20,7 @@ use cs_search::examine::status;
 use cs_search::learn::learn;
 use cs_search::search::{Search, Undecided, spend};
 use cs_search::{Clause, Literal, Status};
+use cs_sums::Stop;
 use std::alloc::Global;
 
 fn is_false(made: &Assignment, literal: Literal) -> bool

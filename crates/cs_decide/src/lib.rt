@@ -4,6 +4,7 @@
 #![tactic(auto)]
 
 mod attempts;
+mod beginning;
 mod cases;
 mod check;
 mod clashes;

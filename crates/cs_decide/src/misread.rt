@@ -2,8 +2,8 @@
 
 use crate::elements::Sources;
 use cs_answer::is_nonlinear;
-use cs_sums::Stop;
 use cs_model::{Model, evaluate};
+use cs_sums::Stop;
 use std::alloc::Global;
 use vx_terms::Term;
 

@@ -1,8 +1,8 @@
 //! A model from the classes, the values of numbers and an assignment.
 
 use crate::elements::Sources;
-use cs_sums::Stop;
 use cs_model::{Entry, Model};
+use cs_sums::Stop;
 use cs_table::Head;
 use std::alloc::Global;
 

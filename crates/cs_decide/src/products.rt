@@ -4,13 +4,13 @@
 use crate::elements::Sources;
 use crate::figures::Cases;
 use cs_claims::claims::value_of;
-use cs_sums::Stop;
 use cs_proof::Step;
 use cs_record::atoms::Atoms;
 use cs_record::cases::order;
 use cs_record::draft::Lemma;
 use cs_record::numbered::Record;
 use cs_search::Value;
+use cs_sums::Stop;
 use cs_table::{Head, congruence};
 use std::alloc::Global;
 use std::rc::Rc;

@@ -1,5 +1,5 @@
 //! Where all attempts leave a stack undecided of which few terms are Bool, all its clauses at once decide it.
-ghost use Rattle.std.specs.Prelude.{IfOk};
+ghost use Rattle.std.specs.Prelude.{IfOk, IfSome};
 ghost use Rattle.cs_proof.specs.Fits.{seen};
 ghost use Rattle.cs_answer.specs.Answers.{IsRight};
 ghost use Rattle.cs_answer.specs.Causes.{IsCause};
@@ -22,18 +22,20 @@ fn by_clauses(alloc: Global, stack: &Stack) -> Result<Answer, Want>
     }
 }
 
-/// The answer of a stack that attempts leave undecided by this cause: it stays so, unless few terms are Bool.
+/// The answer of a stack that attempts leave undecided, by this cause if there is one: it stays so, unless few terms are Bool.
 ///
 /// # Errors
-/// `Want` where memory runs out.
-pub fn settled(alloc: Global, stack: &Stack, cause: Cause) -> Result<Answer, Want>
-    requires { IsCause (seen stack.now) cause }
+/// `Want` where memory runs out, or where there is no cause.
+pub fn settled(alloc: Global, stack: &Stack, cause: Option<Cause>) -> Result<Answer, Want>
+    requires { IfSome cause (IsCause (seen stack.now)) }
     ensures right { IfOk result (IsRight (seen stack.now)) }
     ensures few { IsFew (seen stack.now) → IfOk result IsDecided }
 {
     if is_few(alloc, stack)? {
-        by_clauses(alloc, stack)
-    } else {
-        Ok(Answer::Unknown(cause))
+        return by_clauses(alloc, stack);
+    }
+    match cause {
+        Some(cause) => Ok(Answer::Unknown(cause)),
+        None => Err(Want),
     }
 }

@@ -1,8 +1,9 @@
 //! The signs with which atoms are decided first.
 
-use cs_sums::Stop;
+use crate::check::Attempt;
 use cs_index::mix;
 use cs_search::order::Order;
+use cs_sums::Stop;
 
 /// The sign with which an atom is decided first.
 pub(crate) fn prefer(order: &mut Order, atom: u32, sign: bool) -> Result<(), Stop> {
@@ -14,7 +15,10 @@ pub(crate) fn prefer(order: &mut Order, atom: u32, sign: bool) -> Result<(), Sto
 }
 
 /// The signs with which the first atoms are decided first, in a later attempt.
-pub(crate) fn prefer_others(order: &mut Order, count: u32, attempt: u32) -> Result<(), Stop> {
+pub(crate) fn prefer_others(order: &mut Order, count: u32, attempt: Attempt) -> Result<(), Stop> {
+    let Attempt::Signs(attempt) = attempt else {
+        return Ok(());
+    };
     if attempt == 0 {
         return Ok(());
     }

@@ -7,19 +7,20 @@ ghost use Rattle.cs_answer.specs.Answers.{IsRight};
 ghost use Rattle.cs_decide.specs.Reached.{IsReached};
 
 use crate::cases::take_cases;
-use crate::check::Check;
+use crate::check::{Attempt, Check, Stopped};
 use crate::figures::Found;
 use crate::lemmas::{refuse, take_lemma};
 use crate::signs::{prefer, prefer_others};
 use cs_answer::Answer;
 use cs_claims::claims::Claim;
-use cs_sums::Stop;
 use cs_meter::Meter;
 use cs_proof::Stack;
 use cs_record::clauses::search_of;
+use cs_search::Clause;
 use cs_search::search::{
     Search, decide, find_unset, latest, learn_conflict, refutation, spend, spread,
 };
+use cs_sums::Stop;
 use std::alloc::Global;
 
 /// How far decisions have led.
@@ -164,18 +165,47 @@ fn run(
     }
 }
 
-/// Decides the assertions of a stack by one attempt, or stops. A later attempt prefers other signs.
-pub fn decided(
+/// The answer of an attempt within its units.
+fn answered(
     alloc: Global,
     stack: &Stack,
-    attempt: u32,
-    meter: &mut Meter,
+    attempt: Attempt,
+    check: &mut Check,
+    clauses: Vec<Clause>,
 ) -> Result<Answer, Stop>
-    ensures right { IfOk result (IsRight (seen stack.now)) }
-    ensures kept { (result ≡ Err Stop.Want → ⊥) → meter.old.spent ≤ meter.new.spent }
+    ensures { IfOk result (IsRight (seen stack.now)) }
 {
-    let (mut check, clauses) = Check::new(alloc, stack)?;
+    let mut meter = Meter::new();
     let mut search = search_of(alloc, clauses)?;
     prefer_others(&mut search.order, check.live, attempt)?;
-    run(alloc, stack, &mut check, &mut search, meter)
+    run(alloc, stack, check, &mut search, &mut meter)
+}
+
+/// The answer of an attempt over these clauses.
+fn attempted(
+    alloc: Global,
+    stack: &Stack,
+    attempt: Attempt,
+    mut check: Check,
+    clauses: Vec<Clause>,
+) -> Result<Answer, Stopped>
+    ensures { IfOk result (IsRight (seen stack.now)) }
+{
+    match answered(alloc, stack, attempt, &mut check, clauses) {
+        Ok(answer) => Ok(answer),
+        Err(stop) => Err(check.stopped(stop)),
+    }
+}
+
+/// Decides the assertions of a stack by one attempt, or stops.
+pub fn decided(alloc: Global, stack: &Stack, attempt: Attempt) -> Result<Answer, Stopped>
+    ensures { IfOk result (IsRight (seen stack.now)) }
+{
+    match Check::new(alloc, stack, attempt) {
+        Ok((check, clauses)) => attempted(alloc, stack, attempt, check, clauses),
+        Err(stop) => Err(Stopped {
+            stop,
+            steps: Vec::new(alloc),
+        }),
+    }
 }

@@ -9,7 +9,7 @@ use vx_table::Text;
 
 fn put_cause(cause: &Cause, out: &mut Text) {
     match cause {
-        Cause::Budget(_) => out.put("unknown, all units are spent"),
+        Cause::Budget => out.put("unknown, all units are spent"),
         Cause::Over(_) => out.put("unknown, a fraction leaves 128 bits"),
         Cause::Nonlinear(term) => {
             out.put("unknown, term ");
