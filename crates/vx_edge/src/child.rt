@@ -107,6 +107,9 @@ struct Output {
 // So many outputs are looked at, at once.
 const MOST: usize = 16;
 
+// So many milliseconds are waited, at most.
+const LONGEST: i32 = 1_000;
+
 // A descriptor that is asked whether something is there to be read.
 fn asked(fd: RawFd) -> pollfd {
     pollfd {
@@ -273,6 +276,6 @@ impl Spawner for ChildSpawner<'_> {
         for (place, output) in all.iter_mut().zip(outputs) {
             place.fd = output.fd;
         }
-        let _ = poll(&mut all, -1);
+        let _ = poll(&mut all, LONGEST);
     }
 }

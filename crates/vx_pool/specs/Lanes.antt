@@ -29,11 +29,12 @@ numbers lane lanes = map (λ l. lane l.1) lanes
 abbrev pub AreHeld : {W T H : Type 0} → (T → H → Type 0) → H → List (W × T) → Type 0
 AreHeld {W} {T} Held hub lanes = (i : ℕ) (l : W × T) → slice_get lanes i ≡ Some l → Held l.1 hub
 
-module _ {F W T H X : Type 0} (log : W → List (Event F)) (asked : W → Option Question) (ended : W → Bool) (Fits : W → X → Type 0)
+module _ {F W T H X : Type 0} (log : W → List (Event F)) (asked : W → Option Question) (ended : W → Bool) (Fits : W → X → Type 0) (number : W → ℕ) (lane : T → ℕ)
     (Held : T → H → Type 0) (Tells : T → H → List (Event F) → Type 0) (Asks : T → H → List (Event F) → Question → Type 0) where
-  -- no question is open, and the events of the worker are those that the talker tells
+  -- worker and talker have one number; no question is open, and the events of the worker are those that the talker tells
   pub record IsFree (shared : X) (hub : H) (w : W) (t : T) : Type 0 where
     pub fits : Fits w shared
+    pub same : number w ≡ lane t
     pub held : Held t hub
     pub none : asked w ≡ None
     pub told : Tells t hub (log w)
@@ -41,6 +42,7 @@ module _ {F W T H X : Type 0} (log : W → List (Event F)) (asked : W → Option
   -- the worker's question is open, and the events of the worker are those that the talker tells in front of it
   pub record IsWaiting (shared : X) (hub : H) (w : W) (t : T) : Type 0 where
     pub fits : Fits w shared
+    pub same : number w ≡ lane t
     pub held : Held t hub
     pub question : Question
     pub asks : asked w ≡ Some question
@@ -75,7 +77,7 @@ module _ {F W T H X : Type 0} (log : W → List (Event F)) (asked : W → Option
 
   -- What is so between any two calls since the lanes and the hub stood so (lanes0, hub0): each lane stands as its state says, no two have one number, the numbers are as they were, and the hub has
   -- gone on.
-  pub record Amid (lane : T → ℕ) (Later : H → H → Type 0) (shared : X) (lanes0 : List (W × T)) (hub0 : H) (states : List (Option Bool)) (hub : H) (lanes : List (W × T)) : Type 0 where
+  pub record Amid (Later : H → H → Type 0) (shared : X) (lanes0 : List (W × T)) (hub0 : H) (states : List (Option Bool)) (hub : H) (lanes : List (W × T)) : Type 0 where
     pub standing : AreStanding states shared hub lanes
     pub apart : AreApart lane lanes
     pub numbered : numbers lane lanes ≡ numbers lane lanes0

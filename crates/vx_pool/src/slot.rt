@@ -19,10 +19,10 @@ pub fn start_at<X, H, F, W: Worker<X, F>, T: Talker<X, H, F>>(
 ) -> Result<bool, AllocError>
     requires postable { (log : List (Event F)) (q : Question) → W.IsPostable log q → T.IsPostable log q }
     requires within { i < length lanes.old }
-    requires free { (l : W × T) → slice_get lanes.old i ≡ Some l → IsFree W.log W.asked W.ended W.Fits T.Held T.Tells T.Asks shared.now hub.old l.0 l.1 }
+    requires free { (l : W × T) → slice_get lanes.old i ≡ Some l → IsFree W.log W.asked W.ended W.Fits W.lane T.lane T.Held T.Tells T.Asks shared.now hub.old l.0 l.1 }
     ensures lanes { (c : Changes T.lane T.Later T.Held T.Tells T.Asks i lanes.old hub.old lanes.new hub.new)
         × OnOk result (W.left c.after.0 < W.left c.before.0)
-        × IfOk result (λ waits. Stands W.log W.asked W.ended W.Fits T.Held T.Tells T.Asks waits shared.now hub.new c.after.0 c.after.1) }
+        × IfOk result (λ waits. Stands W.log W.asked W.ended W.Fits W.lane T.lane T.Held T.Tells T.Asks waits shared.now hub.new c.after.0 c.after.1) }
 {
     let lane = &mut lanes[i];
     drive(alloc, &mut lane.0, &mut lane.1, shared, hub, None)
@@ -38,10 +38,10 @@ pub fn turn_at<X, H, F, W: Worker<X, F>, T: Talker<X, H, F>>(
 ) -> Result<bool, AllocError>
     requires postable { (log : List (Event F)) (q : Question) → W.IsPostable log q → T.IsPostable log q }
     requires within { i < length lanes.old }
-    requires waits { (l : W × T) → slice_get lanes.old i ≡ Some l → IsWaiting W.log W.asked W.ended W.Fits T.Held T.Tells T.Asks shared.now hub.old l.0 l.1 }
+    requires waits { (l : W × T) → slice_get lanes.old i ≡ Some l → IsWaiting W.log W.asked W.ended W.Fits W.lane T.lane T.Held T.Tells T.Asks shared.now hub.old l.0 l.1 }
     ensures lanes { (c : Changes T.lane T.Later T.Held T.Tells T.Asks i lanes.old hub.old lanes.new hub.new)
         × OnOk result (W.left c.after.0 < W.left c.before.0)
-        × IfOk result (λ waits. Stands W.log W.asked W.ended W.Fits T.Held T.Tells T.Asks waits shared.now hub.new c.after.0 c.after.1) }
+        × IfOk result (λ waits. Stands W.log W.asked W.ended W.Fits W.lane T.lane T.Held T.Tells T.Asks waits shared.now hub.new c.after.0 c.after.1) }
 {
     let lane = &mut lanes[i];
     turn(alloc, &mut lane.0, &mut lane.1, shared, hub)

@@ -3,7 +3,7 @@
 ghost use Rattle.std.specs.Prelude.{◌≡◌, ℕ, ◌++◌, ◌∷◌, [], List, IfOk, OnOk, IfErr};
 ghost use Rattle.vx_rules.specs.Trees.{Question};
 ghost use Rattle.vx_stack.specs.Stack as rules;
-ghost use Rattle.vx_pool.specs.Events.{Event, Answered, Lost, Left, IfFault};
+ghost use Rattle.vx_pool.specs.Events.{Event, Answered, Lost, Left, GoesOn, IfFault};
 ghost use Rattle.vx_pool.specs.Lanes.{Moves};
 
 use crate::Stop;
@@ -26,8 +26,8 @@ pub trait Talker<X, H, F> {
     /// It tells these events with the hub, and behind them this question is open.
     ghost Asks: { Self → H → List (Event F) → Question → Type 0 };
 
-    /// It tells these events with the hub, and the question behind them is lost, by this cause.
-    ghost Loses: { Self → H → List (Event F) → F → Type 0 };
+    /// It tells these events with the hub, and behind them this question is lost, by this cause.
+    ghost Loses: { Self → H → List (Event F) → Question → F → Type 0 };
 
     /// What has to be so of a question that is posted behind these events.
     ghost IsPostable: { List (Event F) → Question → Type 0 };
@@ -35,16 +35,23 @@ pub trait Talker<X, H, F> {
     /// How the hub may go on.
     ghost Later: { H → H → Type 0 };
 
-    /// Asks a question; a child is started where there is none.
+    /// Asks a question, whose path goes on from the one that stands where it stays; a child is started where there is none.
     ///
     /// # Errors
     /// `Fault` where the question is lost, with the cause; `Want` where memory runs out.
-    fn post(&mut self, alloc: Global, shared: &X, hub: &mut H, query: &Query) -> Result<(), Stop<F>>
+    fn post(
+        &mut self,
+        alloc: Global,
+        shared: &X,
+        hub: &mut H,
+        query: &Query,
+        stays: bool,
+    ) -> Result<(), Stop<F>>
         requires held { Held self.old hub.old }
-        requires told { (log : List (Event F)) × Tells self.old hub.old log × IsPostable log (rules.query query.now) }
+        requires told { (log : List (Event F)) × Tells self.old hub.old log × IsPostable log (rules.query query.now) × GoesOn log (rules.query query.now) stays }
         ensures held { Held self.new hub.new }
         ensures told { OnOk result ((log : List (Event F)) → Tells self.old hub.old log → Asks self.new hub.new log (rules.query query.now)) }
-        ensures fault { IfErr result (λ stop. IfFault stop (λ cause. (log : List (Event F)) → Tells self.old hub.old log → Loses self.new hub.new log cause)) }
+        ensures fault { IfErr result (λ stop. IfFault stop (λ cause. (log : List (Event F)) → Tells self.old hub.old log → Loses self.new hub.new log (rules.query query.now) cause)) }
         ensures moves { Moves lane Later Held Tells Asks self.old hub.old self.new hub.new };
 
     /// The reply to the open question.
@@ -56,7 +63,7 @@ pub trait Talker<X, H, F> {
         requires asked { (log : List (Event F)) × (q : Question) × Asks self.old hub.old log q }
         ensures held { Held self.new hub.new }
         ensures told { IfOk result (λ reply. (log : List (Event F)) (q : Question) → Asks self.old hub.old log q → Tells self.new hub.new (log ++ Answered q reply ∷ [])) }
-        ensures fault { IfErr result (λ stop. IfFault stop (λ cause. (log : List (Event F)) (q : Question) → Asks self.old hub.old log q → Loses self.new hub.new log cause)) }
+        ensures fault { IfErr result (λ stop. IfFault stop (λ cause. (log : List (Event F)) (q : Question) → Asks self.old hub.old log q → Loses self.new hub.new log q cause)) }
         ensures moves { Moves lane Later Held Tells Asks self.old hub.old self.new hub.new };
 
     /// A member is over.
@@ -70,10 +77,16 @@ pub trait Talker<X, H, F> {
     /// A question was lost: what is asked next is asked anew.
     fn renew(&mut self, alloc: Global, shared: &X, hub: &mut H) -> Result<(), AllocError>
         requires held { Held self.old hub.old }
-        requires lost { (log : List (Event F)) × (cause : F) × Loses self.old hub.old log cause }
+        requires lost { (log : List (Event F)) × (q : Question) × (cause : F) × Loses self.old hub.old log q cause }
         ensures held { Held self.new hub.new }
-        ensures told { OnOk result ((log : List (Event F)) (cause : F) → Loses self.old hub.old log cause → Tells self.new hub.new (log ++ Lost cause ∷ [])) }
+        ensures told { OnOk result ((log : List (Event F)) (q : Question) (cause : F) → Loses self.old hub.old log q cause → Tells self.new hub.new (log ++ Lost q cause ∷ [])) }
         ensures moves { Moves lane Later Held Tells Asks self.old hub.old self.new hub.new };
+
+    /// Whether the reply to the open question is there, so that taking it needn't wait. It may say no where that isn't known. No memory.
+    fn ready(&self, hub: &H) -> bool;
+
+    /// Waits until some lane's reply is there, where that can be told, but not for ever. No memory.
+    fn wait(hub: &H);
 
     ghost later_same: { (h : H) → Later h h };
 

@@ -1,8 +1,8 @@
 //! The worker of a lane.
 
-ghost use Rattle.std.specs.Prelude.{◌≡◌, ℕ, ◌<◌, ◌≤◌, ◌++◌, ◌∷◌, [], Bool, true, List, Option, None, IfOk, OnOk, is_some};
+ghost use Rattle.std.specs.Prelude.{◌≡◌, ℕ, ◌<◌, ◌≤◌, Bool, true, List, Option, None, IfOk, OnOk, is_some};
 ghost use Rattle.vx_rules.specs.Trees.{Question};
-ghost use Rattle.vx_pool.specs.Events.{Event, Lost, with_answer, with_leaving, question_in, is_end, IfQuestion};
+ghost use Rattle.vx_pool.specs.Events.{Event, GoesOn, with_answer, with_loss, with_leaving, question_in, is_end, IfQuestion};
 
 use crate::Next;
 use std::alloc::{AllocError, Global};
@@ -10,6 +10,9 @@ use vx_rules::Reply;
 
 /// Asks one question after another, member by member, over what all lanes share.
 pub trait Worker<X, F> {
+    /// The number of its lane.
+    ghost lane: { Self → ℕ };
+
     /// What has happened so far: the questions that were answered with their replies, those that were lost, and the members left.
     ghost log: { Self → List (Event F) };
 
@@ -33,9 +36,11 @@ pub trait Worker<X, F> {
         requires awaited { is_some (asked self.old) ≡ is_some reply }
         requires fits { Fits self.old shared.now }
         ensures fits { Fits self.new shared.now }
+        ensures lane { lane self.new ≡ lane self.old }
         ensures told { IfOk result (λ next. log self.new ≡ with_leaving (with_answer (log self.old) reply (asked self.old)) next) }
         ensures open { IfOk result (λ next. asked self.new ≡ question_in next) }
-        ensures postable { IfOk result (λ next. IfQuestion next (IsPostable (log self.new))) }
+        ensures postable { IfOk result (λ next. IfQuestion next (λ q stays. IsPostable (log self.new) q)) }
+        ensures goes_on { IfOk result (λ next. IfQuestion next (GoesOn (log self.new))) }
         ensures end { IfOk result (λ next. ended self.new ≡ is_end next) }
         ensures fewer { IfOk result (λ next. left self.new < left self.old) };
 
@@ -44,7 +49,8 @@ pub trait Worker<X, F> {
         requires asked { is_some (asked self.old) ≡ true }
         requires fits { Fits self.old shared.now }
         ensures fits { Fits self.new shared.now }
-        ensures told { OnOk result (log self.new ≡ log self.old ++ Lost cause ∷ []) }
+        ensures lane { lane self.new ≡ lane self.old }
+        ensures told { OnOk result (log self.new ≡ with_loss (log self.old) (asked self.old) cause) }
         ensures open { OnOk result (asked self.new ≡ None) }
         ensures fewer { OnOk result (left self.new ≤ left self.old) };
 }

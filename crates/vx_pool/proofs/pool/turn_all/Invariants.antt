@@ -8,7 +8,8 @@ invariant-turns g l =
     let w = g.W.Worker in
     let t = g.T.Talker in
     record {
-      amid : Amid w.log w.asked w.ended w.Fits t.Held t.Tells t.Asks t.lane t.Later l.shared l.fn.lanes l.fn.hub l.states l.hub l.lanes;
+      amid : Amid w.log w.asked w.ended w.Fits w.lane t.lane t.Held t.Tells t.Asks t.Later l.shared l.fn.lanes l.fn.hub l.states l.hub l.lanes;
+      marks : length l.ready ≡ length l.lanes;
       driven : (j : ℕ) → j < length l.lanes → get_or l.states j None ≡ None → ⊥;
     }
 
