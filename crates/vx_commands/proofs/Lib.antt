@@ -3,3 +3,6 @@ mod Scripts
 mod Readable
 mod Companions
 mod Untouched
+mod Either
+mod Due
+mod WholeRuns

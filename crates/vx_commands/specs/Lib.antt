@@ -1,3 +1,7 @@
 pub mod Outside
 pub mod Refusals
-pub mod Reported
+pub mod Texts
+pub mod Reports
+pub mod WholeRuns
+pub mod Promised
+pub mod Steps
