@@ -149,8 +149,8 @@ fn put_turn<N: Turns>(turns: &mut N, waiting: usize, text: &mut Text)
 
 // The turns where so many wait, then as many, and then so many at last.
 fn put_three<N: Turns>(turns: &mut N, waiting: usize, at_last: usize, text: &mut Text)
-    requires waiting { 0 < waiting }
-    requires last { 0 < at_last }
+    requires some { 0 < waiting }
+    requires some_at_last { 0 < at_last }
 {
     text.break_line();
     put_turn(turns, waiting, text);

@@ -3,6 +3,3 @@ mod Scripts
 mod Readable
 mod Companions
 mod Untouched
-mod Either
-mod Due
-mod WholeRuns

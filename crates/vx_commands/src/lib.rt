@@ -3,13 +3,10 @@
 
 mod answers;
 mod generated;
-mod output;
 mod reading;
 mod reports;
 mod saying;
 mod top;
-mod whole_runs;
 
-pub use output::Ended;
 pub use reports::Telling;
-pub use top::run;
+pub use top::{Ended, run};

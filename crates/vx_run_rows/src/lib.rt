@@ -5,6 +5,5 @@
 mod all;
 mod answers;
 mod ends;
-mod lanes;
 
 pub use all::answers_of;

@@ -2,12 +2,10 @@
 //! `verify` are what is promised of that.
 #![tactic(auto)]
 
-mod line;
-mod members;
-mod outset;
+mod execute;
+mod lane;
 mod program;
 mod symbols;
-mod verifying;
 
+pub use execute::{Runs, Verification, verify};
 pub use program::{settled, typed_programs_are_whole};
-pub use verifying::{Runs, Verification, verify};

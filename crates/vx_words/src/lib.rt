@@ -2,7 +2,7 @@
 #![tactic(auto)]
 
 mod command_table;
-mod numbers;
+mod methods;
 mod order;
 mod reading;
 mod solver;
