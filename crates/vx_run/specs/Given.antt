@@ -5,14 +5,14 @@ use Rattle.vx_ast.specs.declared.Place.{Place}
 use Rattle.vx_ast.specs.Syntax.{Program, Predicate, predicate_named, Assertion}
 use Rattle.vx_frac.specs.Fractions.{Fraction, none, full, is_positive, at_most}
 use Rattle.vx_meaning.specs.Values.{is_true}
-use Rattle.vx_meaning.specs.States.{State, Store, Heap, Holdings, Location, Instance, Resource, At, Folded, amount, bind, field_type, with_heap, with_holdings}
+use Rattle.vx_meaning.specs.States.{State, Heap, Holdings, Location, Instance, Resource, At, Folded, amount, bind, field_type, with_heap, with_holdings}
 use Rattle.vx_meaning.specs.Flatten.{bare, flat}
 use Rattle.vx_meaning.specs.Consistent.{spread}
 use Rattle.vx_meaning.specs.Around.{Around}
 use Rattle.vx_run.specs.Draws.{Choosing}
 use Rattle.vx_run.specs.Going.{Going, ◌>>=◌, gives, ends_with, when, require, expect, failing_as, step, chosen, Failed, Stopped, Running}
-use Rattle.vx_run.specs.Widths.{Width, written_all, times, more}
-use Rattle.vx_run.specs.Evaluated.{Deeper, Permitted, Free, Visit, decided, visit}
+use Rattle.vx_run.specs.Widths.{Width, times, more}
+use Rattle.vx_run.specs.Evaluated.{Deeper, Permitted, Free, decided, visit}
 
 -- the most that can be held of a location: nothing of null
 abbrev pub most_of : Location → Fraction
@@ -58,22 +58,19 @@ module _ {S : Type 0} (p : Program) (c : Choosing S) (width : Width) where
       more width at (At l) q w.totals >>= λ totals. require (at_most (amount totals (At l)) (most_of l)) (Failed at) >>= λ _.
       valued (is_positive q && not (is_positive (amount w.totals (At l)))) l w.heap >>= λ h. gives record { heap = h; totals = totals }
 
-  -- q of what is in a body with these variables, read left to right in the heap as it then is
-  abbrev pub to_fill : (Instance → Fraction → Filling → Going S Filling) → Fraction → Store → Visit S Filling
-  to_fill inside q x = record {
+  -- q of what is in a body, read left to right in the heap as it then is
+  abbrev pub fill_body : Deeper S → (Instance → Fraction → Filling → Going S Filling) → Fraction → Predicate → Instance → Option Assertion → Filling → Going S Filling
+  fill_body d inside q b i None w = gives w
+  fill_body d inside q b i (Some e) w = visit p width d record {
     reading = Free;
-    state = λ u. bare x u.heap;
+    state = λ u. bare (bind b.parameters i.arguments) u.heap;
     pure = λ at t. require t (Failed at);
     side = decided;
     part = λ at part u. times width at q part.1 >>= λ r. one at part.0 r u;
-  } where
+  } e w where
     one : Place → Resource → Fraction → Filling → Going S Filling
     one at (At l) r u = fill_location at l r u
     one at (Folded j) r u = inside j r u
-
-  abbrev pub fill_body : Deeper S → (Instance → Fraction → Filling → Going S Filling) → Fraction → Predicate → Instance → Option Assertion → Filling → Going S Filling
-  fill_body d inside q b i None w = gives w
-  fill_body d inside q b i (Some e) w = visit p width d (to_fill inside q (bind b.parameters i.arguments)) e w
 
   -- q of an instance with all that is in it, a step for each
   abbrev pub fill : Deeper S → ℕ → Place → Instance → Fraction → Filling → Going S Filling
@@ -86,8 +83,8 @@ module _ {S : Type 0} (p : Program) (c : Choosing S) (width : Width) where
     if_possible at s = require (is_possible p depth a s) (Stopped at) >>= λ _. gives s
 
     -- q of an assertion is given, and no value is chosen: what was held throughout
-    abbrev pub to_give_again : Fraction → Visit S State
-    to_give_again q = record {
+    abbrev pub give_again : Fraction → Assertion → State → Going S State
+    give_again q = visit p width d record {
       reading = Permitted;
       state = λ s. s;
       pure = λ at b. require b (Stopped at);
@@ -95,26 +92,20 @@ module _ {S : Type 0} (p : Program) (c : Choosing S) (width : Width) where
       part = λ at part s. times width at q part.1 >>= λ b. more width at part.0 b s.holdings >>= λ h. if_possible at (with_holdings h s);
     }
 
-    abbrev pub give_again : Fraction → Assertion → State → Going S State
-    give_again q = visit p width d (to_give_again q)
-
     -- the heap where q of a location or of an instance is newly held
     abbrev pub filled : ℕ → Place → Resource → Fraction → Filling → Going S Filling
     filled n at (At l) q w = fill_location at l q w
     filled n at (Folded i) q w = when (is_positive q) (fill d n at i q w) (gives w)
 
     -- q of an assertion is given, with values chosen
-    abbrev pub to_give : ℕ → Fraction → Visit S State
-    to_give n q = record {
+    abbrev pub give : ℕ → Fraction → Assertion → State → Going S State
+    give n q = visit p width d record {
       reading = Permitted;
       state = λ s. s;
       pure = λ at b. require b (Stopped at);
       side = λ at v. gives (is_true v);
       part = λ at part s.
           times width at q part.1 >>= λ b. more width at part.0 b s.holdings >>= λ h.
-          failing_as (Stopped at) (filled n at part.0 b record { heap = s.heap; totals = written_all width (all_held p depth a s) }) >>= λ w.
+          failing_as (Stopped at) (filled n at part.0 b record { heap = s.heap; totals = all_held p depth a s }) >>= λ w.
           if_possible at (with_holdings h (with_heap w.heap s));
     }
-
-    abbrev pub give : ℕ → Fraction → Assertion → State → Going S State
-    give n q = visit p width d (to_give n q)

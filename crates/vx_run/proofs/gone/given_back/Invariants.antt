@@ -1,8 +1,0 @@
-use Rattle.std.proofs.Common.{◌≡◌, ◌++◌, map}
-use Rattle.vx_run.specs.Holding.{holdings}
-use Rattle.vx_run.specs.Taken.{taken}
-use Rattle.vx_run.specs.Whole.{given_back}
-use Rattle.vx_run.proofs.gone.given_back.Given as goal
-
-abbrev pub invariant-loop-found : goal.invariant-loop-found
-invariant-loop-found l = given_back (map taken l.found.items) ++ holdings l.given ≡ given_back (map taken l.fn.found.items)
