@@ -1,5 +1,5 @@
 pub mod Table
 pub mod Solvers
-pub mod Methods
+pub mod Numbers
 pub mod Orders
 pub mod Parses

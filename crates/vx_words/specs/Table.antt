@@ -20,15 +20,18 @@ abbrev pub command : Text → List Rule → Shape
 command name rules = (with_rules (new_app name) rules).top
 
 abbrev pub verify_shape : Shape
-verify_shape = command (codes "verify") (plain_rule (codes "file") ∷ option_rule (codes "solver") ∷ [])
+verify_shape = command (codes "verify") (plain_rule (codes "file") ∷ option_rule (codes "solver") ∷ option_rule (codes "jobs") ∷ [])
 
 -- a command that takes a file, or none
 abbrev pub file_shape : Text → Shape
 file_shape name = command name (plain_rule (codes "file") ∷ [])
 
--- a command that takes how many methods to generate
-abbrev pub count_shape : Text → Shape
-count_shape name = command name (plain_rule (codes "methods") ∷ [])
+-- how many methods to generate
+abbrev pub gen_shape : Shape
+gen_shape = command (codes "gen") (plain_rule (codes "methods") ∷ [])
+
+abbrev pub work_shape : Shape
+work_shape = command (codes "work") (plain_rule (codes "methods") ∷ option_rule (codes "jobs") ∷ [])
 
 -- the program: a command is wanted, and there is no help and no version
 abbrev pub top_app : App
@@ -40,4 +43,4 @@ abbrev pub file_app : App
 file_app = with_subcommand (with_subcommand (with_subcommand top_app verify_shape) (file_shape (codes "check"))) (file_shape (codes "print"))
 
 unfoldable pub vsil_app : App
-vsil_app = with_subcommand (with_subcommand file_app (count_shape (codes "gen"))) (count_shape (codes "work"))
+vsil_app = with_subcommand (with_subcommand file_app gen_shape) work_shape

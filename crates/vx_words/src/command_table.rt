@@ -2,7 +2,7 @@
 ghost use Rattle.std.specs.Prelude.{◌≡◌, IfOk, false, codes};
 ghost use Rattle.clap.specs.Words.{rule_of, app_of, shape_of, with_subcommand};
 ghost use Rattle.clap.specs.declared.builder.command.Command.TheViews.{out-Command as fields_of};
-ghost use Rattle.vx_words.specs.Table.{plain_rule, option_rule, verify_shape, file_shape, count_shape, top_app, vsil_app};
+ghost use Rattle.vx_words.specs.Table.{plain_rule, option_rule, verify_shape, file_shape, gen_shape, work_shape, top_app, vsil_app};
 
 use clap::{Arg, ArgAction, Command};
 use std::alloc::{AllocError, Global};
@@ -26,7 +26,8 @@ fn verify<'a>(alloc: Global) -> Result<Command<'a>, AllocError>
 {
     Command::new(alloc, "verify")
         .arg(plain(alloc, "file"))?
-        .arg(option(alloc, "solver"))
+        .arg(option(alloc, "solver"))?
+        .arg(option(alloc, "jobs"))
 }
 
 // A command that takes a file, or none.
@@ -36,11 +37,18 @@ fn of_a_file<'a>(alloc: Global, name: &'a str) -> Result<Command<'a>, AllocError
     Command::new(alloc, name).arg(plain(alloc, "file"))
 }
 
-// A command that takes how many methods to generate.
-fn of_a_count<'a>(alloc: Global, name: &'a str) -> Result<Command<'a>, AllocError>
-    ensures { IfOk result (λ c. (shape_of c ≡ count_shape name.entry.now) × ((fields_of c).has_globals ≡ false)) }
+fn generate<'a>(alloc: Global) -> Result<Command<'a>, AllocError>
+    ensures { IfOk result (λ c. (shape_of c ≡ gen_shape) × ((fields_of c).has_globals ≡ false)) }
 {
-    Command::new(alloc, name).arg(plain(alloc, "methods"))
+    Command::new(alloc, "gen").arg(plain(alloc, "methods"))
+}
+
+fn work<'a>(alloc: Global) -> Result<Command<'a>, AllocError>
+    ensures { IfOk result (λ c. (shape_of c ≡ work_shape) × ((fields_of c).has_globals ≡ false)) }
+{
+    Command::new(alloc, "work")
+        .arg(plain(alloc, "methods"))?
+        .arg(option(alloc, "jobs"))
 }
 
 // The program without its commands.
@@ -82,18 +90,6 @@ fn with_file<'a>(
     with(whole, part)
 }
 
-// One command more that takes how many methods to generate.
-fn with_count<'a>(
-    alloc: Global,
-    whole: Command<'a>,
-    name: &'a str,
-) -> Result<Command<'a>, AllocError>
-    ensures { IfOk result (λ c. app_of c ≡ with_subcommand (app_of whole.entry) (count_shape name.entry.now)) }
-{
-    let part = of_a_count(alloc, name)?;
-    with(whole, part)
-}
-
 /// The table of commands.
 pub fn table<'a>(alloc: Global) -> Result<Command<'a>, AllocError>
     ensures { IfOk result (λ c. app_of c ≡ vsil_app) }
@@ -101,6 +97,8 @@ pub fn table<'a>(alloc: Global) -> Result<Command<'a>, AllocError>
     let verifies = verifying(alloc)?;
     let checks = with_file(alloc, verifies, "check")?;
     let prints = with_file(alloc, checks, "print")?;
-    let generates = with_count(alloc, prints, "gen")?;
-    with_count(alloc, generates, "work")
+    let generate = generate(alloc)?;
+    let generates = with(prints, generate)?;
+    let work = work(alloc)?;
+    with(generates, work)
 }

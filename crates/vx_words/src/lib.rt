@@ -2,7 +2,7 @@
 #![tactic(auto)]
 
 mod command_table;
-mod methods;
+mod numbers;
 mod order;
 mod reading;
 mod solver;

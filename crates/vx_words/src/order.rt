@@ -9,16 +9,29 @@ use vx_ends::Parts;
 /// What the program is asked to do.
 #[derive(Drop)]
 pub enum Order {
-    /// Verify a file, or standard input where there is no name, by a solver: `builtin` alone is the companion.
-    Verify { file: Option<Text>, solver: Parts },
+    /// Verify a file, or standard input where there is no name, by a solver in so many lanes, from 1 to 16: `builtin` alone is the companion.
+    Verify {
+        file: Option<Text>,
+        solver: Parts,
+        jobs: u32,
+    },
     /// Type a file, or standard input.
-    Check { file: Option<Text> },
+    Check {
+        file: Option<Text>,
+    },
     /// Write the canonical text of a file, or of standard input.
-    Print { file: Option<Text> },
+    Print {
+        file: Option<Text>,
+    },
     /// Write the text of so many generated methods, at most 2000.
-    Gen { methods: u32 },
-    /// Verify so many generated methods, at most 2000, by the companion, and write the totals alone.
-    Work { methods: u32 },
+    Gen {
+        methods: u32,
+    },
+    /// Verify so many generated methods, at most 2000, by the companion in so many lanes, from 1 to 16, and write the totals alone.
+    Work {
+        methods: u32,
+        jobs: u32,
+    },
 }
 
 /// Why the words give no order.

@@ -1,10 +1,10 @@
 // The order that the matches of a subcommand give.
 ghost use Rattle.std.specs.Prelude.{◌≡◌, ◌≤◌, option_map, IfOk, IfSome, codes};
 ghost use Rattle.clap.specs.Words.{rows_of, found_of, first_of};
-ghost use Rattle.vx_words.specs.Orders.{verify_in, count_in, order_from, ReadsAs, IsWithinLimit};
+ghost use Rattle.vx_words.specs.Orders.{verify_in, jobs_in, count_in, work_in, order_from, ReadsAs, IsLanes, IsWithinLimit};
 ghost use Rattle.vx_words.specs.declared.order.Order.TheVariants as TheOrders;
 
-use crate::methods::methods_of;
+use crate::numbers::{jobs_of, methods_of};
 use crate::solver::parts_of;
 use crate::{Order, Text, WordsFault};
 use clap::ArgMatches;
@@ -26,6 +26,14 @@ fn file_of(alloc: Global, matches: &ArgMatches) -> Result<Option<Text>, AllocErr
     }
 }
 
+// How many lanes are wanted.
+fn lanes_of(matches: &ArgMatches) -> Option<u32>
+    ensures number { result ≡ jobs_in (rows_of (found_of matches.now)) }
+    ensures limit { IfSome result IsLanes }
+{
+    jobs_of(text_of(matches, "jobs").unwrap_or("1"))
+}
+
 fn verify_of(alloc: Global, matches: &ArgMatches) -> Result<Order, WordsFault>
     ensures meaning { ReadsAs (verify_in (rows_of (found_of matches.now))) result }
     ensures limit { IfOk result IsWithinLimit }
@@ -35,7 +43,10 @@ fn verify_of(alloc: Global, matches: &ArgMatches) -> Result<Order, WordsFault>
         return Err(WordsFault::Usage);
     }
     let file = file_of(alloc, matches)?;
-    Ok(Order::Verify { file, solver })
+    match lanes_of(matches) {
+        Some(jobs) => Ok(Order::Verify { file, solver, jobs }),
+        None => Err(WordsFault::Usage),
+    }
 }
 
 // How many methods are to be generated.
@@ -61,12 +72,12 @@ fn gen_of(matches: &ArgMatches) -> Result<Order, WordsFault>
 }
 
 fn work_of(matches: &ArgMatches) -> Result<Order, WordsFault>
-    ensures meaning { ReadsAs (option_map TheOrders.Work (count_in (rows_of (found_of matches.now)))) result }
+    ensures meaning { ReadsAs (work_in (rows_of (found_of matches.now))) result }
     ensures limit { IfOk result IsWithinLimit }
 {
-    match count_of(matches) {
-        Some(methods) => Ok(Order::Work { methods }),
-        None => Err(WordsFault::Usage),
+    match (count_of(matches), lanes_of(matches)) {
+        (Some(methods), Some(jobs)) => Ok(Order::Work { methods, jobs }),
+        _ => Err(WordsFault::Usage),
     }
 }
 

@@ -1,7 +1,7 @@
-use Rattle.std.proofs.Common.{◌∙◌, ap}
+use Rattle.std.proofs.Common.{◌∙◌, ap, ap₂}
 use Rattle.std.proofs.lemmas.Result.{IfOk-weaker}
 use Rattle.clap.specs.Words.{with_subcommand}
-use Rattle.vx_words.specs.Table.{count_shape, file_shape, vsil_app}
+use Rattle.vx_words.specs.Table.{file_shape, vsil_app}
 use Rattle.std.specs.Prelude.{codes}
 use Rattle.vx_words.proofs.command_table.table.Goals as goal
 
@@ -10,5 +10,5 @@ unfolding vsil_app
 returns c =
     let checks = c.in_ok-checks.ensures ∙ ap (λ app. with_subcommand app (file_shape (codes "check"))) c.in_ok-verifies.ensures in
     let prints = c.in_ok-prints.ensures ∙ ap (λ app. with_subcommand app (file_shape (codes "print"))) checks in
-    let generates = c.in_ok-generates.ensures ∙ ap (λ app. with_subcommand app (count_shape (codes "gen"))) prints in
-    IfOk-weaker c.with_count-2.result _ _ (λ m h. h ∙ ap (λ app. with_subcommand app (count_shape (codes "work"))) generates) c.with_count-2.ensures
+    let generates = c.in_ok-generates.ensures ∙ ap₂ with_subcommand prints c.in_ok-generate.ensures.0 in
+    IfOk-weaker c.with-2.result _ _ (λ m h. h ∙ ap₂ with_subcommand generates c.in_ok-work.ensures.0) c.with-2.ensures
