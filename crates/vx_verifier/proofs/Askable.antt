@@ -1,4 +1,4 @@
--- What holds of each question of the members' trees holds of what the one child is asked.
+-- What holds of each question of the members' trees holds of what a lane's child is asked.
 use Rattle.std.proofs.Common.{◌≡◌, ℕ, ◌+◌, ◌||◌, Bool, true, false, ◌++◌, ◌∷◌, [], List, length, take, drop, refl, ap, ◌∙◌, sym, subst, append_assoc, if◌then◌else◌}
 use Rattle.vx_ast.specs.Syntax.{Program}
 use Rattle.vx_terms.specs.Terms.{Term}
@@ -87,9 +87,9 @@ module _ (P : List Term → Term → Type 0) where
   failed_here true e v is = cc
   failed_here false e v is = refl
 
-module _ (P : List Term → Term → Type 0) (p : Program) (before now : List Ending) (f g : ℕ) where
+module _ (P : List Term → Term → Type 0) (p : Program) (links : List Ending) (f g lane : ℕ) where
   -- behind a fault nothing is asked
-  silent : (first : ℕ) (runs : List MemberRun) (checks : List Check) → AreTold p before now f g true first runs checks → turns_of true p runs checks ≡ []
+  silent : (first : ℕ) (runs : List MemberRun) (checks : List Check) → AreTold p links f g lane true first runs checks → turns_of true p runs checks ≡ []
   silent first [] checks told = refl
   silent first (r ∷ runs) checks told =
       let front = own_front r.checks checks told.0 told.1 told.2 told.3.count in
@@ -99,7 +99,7 @@ module _ (P : List Term → Term → Type 0) (p : Program) (before now : List En
       ap (λ x. x ++ turns_of true p runs (drop r.checks checks)) here ∙ (ap (turns_of true p runs) front.1 ∙ silent (first + length told.0) runs told.1 told.4)
 
   pub turns_ask : ((k : ℕ) → AllAsk P (member_tree p k)) → (lost : Bool) (first : ℕ) (runs : List MemberRun) (checks : List Check)
-      → AreTold p before now f g lost first runs checks → AreTurns P (turns_of lost p runs checks)
+      → AreTold p links f g lane lost first runs checks → AreTurns P (turns_of lost p runs checks)
   turns_ask all lost first [] checks told = tt
   turns_ask all lost first (r ∷ runs) checks told =
       let n = r.member.0 in
@@ -111,7 +111,7 @@ module _ (P : List Term → Term → Type 0) (p : Program) (before now : List En
       let later : AreTurns P rest = subst (λ x. AreTurns P (turns_of gone p runs x)) (sym front.1) (turns_ask all gone (first + length told.0) runs told.1 told.4) in
       let none : gone ≡ true → rest ≡ [] = λ is.
       ap (λ b. turns_of b p runs (drop r.checks checks)) is ∙ (ap (turns_of true p runs) front.1
-      ∙ silent (first + length told.0) runs told.1 (subst (λ b. AreTold p before now f g b (first + length told.0) runs told.1) is told.4)) in
+      ∙ silent (first + length told.0) runs told.1 (subst (λ b. AreTold p links f g lane b (first + length told.0) runs told.1) is told.4)) in
       let failed = failed_turn lost w.ending r.verdict in
       let ends = last_askable P lost (is_faulted r.verdict) w.ending rest met.last later none failed (failed_gone P lost w.ending r.verdict) (failed_here P lost w.ending r.verdict) in
       subst (AreTurns P) (sym (append_assoc (asks_of w.answered ++ failed) (left_turn gone) rest ∙ append_assoc (asks_of w.answered) failed (left_turn gone ++ rest)))

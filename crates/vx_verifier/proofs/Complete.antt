@@ -17,7 +17,8 @@ use Rattle.vx_rules.specs.Trees.{Ending as Ends, Tree, End, Impossible, On, Step
 use Rattle.vx_rules.specs.Codes.{code}
 use Rattle.vx_machine.specs.Runs.{member_tree}
 use Rattle.vx_verifier.specs.Sequences.{AllUnsat, replies_to}
-use Rattle.vx_verifier.specs.Causes.{SomeEnding, EachEnding, HasCauseOf, NoCountRose, AllLawful}
+use Rattle.vx_verifier.specs.Causes.{LinkHas, IsUnlawful, IsLawful, HasCauseOf}
+use Rattle.vx_ends.specs.Causes.{Rose}
 use Rattle.vx_report.specs.Reports.{AreNamed}
 use Rattle.vx_ast.specs.Syntax.{Member}
 use Rattle.vx_ast.specs.declared.MemberId.{MemberId}
@@ -26,22 +27,22 @@ use Rattle.vx_closure.specs.Leads.{LeadsTo}
 use Rattle.vx_resting.specs.Resting.{has_passed, HoldsUp, IsHeldUpAs, AreRested}
 use Rattle.vx_verifier.specs.Sequences.{IsIn}
 use Rattle.vx_verifier.proofs.Sequences.{each_in, in_each}
-use Rattle.vx_verifier.proofs.Closures.{own_sequence, first_is}
-use Rattle.vx_verifier.specs.Headline.{IsVerdictOf, AreTold, HasNoFault, HasNoLimit, IsComplete, Under, sequence_of, walk_of}
+use Rattle.vx_verifier.proofs.Closures.{Sequenced, first_is}
+use Rattle.vx_verifier.specs.Headline.{IsVerdictOf, AreTold, HasNoFault, Under, sequence_of, walk_of}
 
 -- ---- no cause of a fault
 
-no_such : (before now : List Ending) (P Q : Ending → Type 0) → EachEnding before now Q → ((e : Ending) → P e → Q e → ⊥) → SomeEnding before now P → ⊥
-no_such before now P Q each excludes some = excludes some.0 some.3 (each (some.0 ∷ some.1) some.2).0
+no_such : (links : List Ending) (P Q : Ending → Type 0) → Each Q links → ((e : Ending) → P e → Q e → ⊥) → LinkHas links P → ⊥
+no_such links P Q each excludes has = excludes has.0 has.2 (subst (Each Q) has.1 each).0
 
 not_above : (n : ℕ) → 0 < n → n ≡ 0 → ⊥
 not_above n above none = omega arith
 
-no_cause : (before now : List Ending) (f g : ℕ) → NoCountRose before now f g → AllLawful before now → (x : Cause) → HasCauseOf before now f g false x → ⊥
-no_cause before now f g calm lawful cause.Pipe has = no_such before now _ _ calm.links (λ e above none. not_above e.faults above none) has.1
-no_cause before now f g calm lawful cause.Start has = calm.starts has.1
-no_cause before now f g calm lawful cause.Spent has = cc
-no_cause before now f g calm lawful (cause.Reply kept) has = no_such before now _ _ lawful (λ e unlawful lawful'. lawful' kept unlawful) has.1
+no_cause : (links : List Ending) (f g : ℕ) → (Rose f g → ⊥) → Each (λ (e : Ending). e.faults ≡ 0) links → Each (λ (e : Ending). IsLawful e.dialogue) links → (x : Cause) → HasCauseOf links f g false x → ⊥
+no_cause links f g calm fine lawful cause.Pipe has = no_such links (λ e. 0 < e.faults) (λ e. e.faults ≡ 0) fine (λ e above none. not_above e.faults above none) has.1
+no_cause links f g calm fine lawful cause.Start has = calm has.1
+no_cause links f g calm fine lawful cause.Spent has = cc
+no_cause links f g calm fine lawful (cause.Reply kept) has = no_such links (λ e. IsUnlawful e.dialogue kept) (λ e. IsLawful e.dialogue) lawful (λ e unlawful lawful'. lawful' kept unlawful) has.1
 
 not_faulted : (C : Cause → Type 0) → ((x : Cause) → C x → ⊥) → (e : Ends) (asked : ℕ) (v : Verdict) → IsVerdictOf C e asked v → is_faulted v ≡ false
 not_faulted C none e asked verdict.Verified has = refl
@@ -50,15 +51,14 @@ not_faulted C none e asked (verdict.Rests m) has = refl
 not_faulted C none e asked verdict.Limit has = refl
 not_faulted C none e asked (verdict.Fault x) has = absurd (none x has.0)
 
-module _ (p : Program) (before now : List Ending) (f g : ℕ) where
-  none_faulted : NoCountRose before now f g → AllLawful before now → (first : ℕ) (runs : List MemberRun) (checks : List Check)
-      → AreTold p before now f g false first runs checks → HasNoFault runs
-  none_faulted calm lawful first [] checks told = tt
-  none_faulted calm lawful first (r ∷ runs) checks told =
-      let none = no_cause before now f g calm lawful in
-      let fine = not_faulted (HasCauseOf before now f g false) none (walk_of p r.member.0 told.0).ending (length told.0) r.verdict told.3.told.verdict in (
-        fine,
-        none_faulted calm lawful (first + length told.0) runs told.1 (subst (λ b. AreTold p before now f g b (first + length told.0) runs told.1) fine told.4),
+module _ (p : Program) (links : List Ending) (f g lane : ℕ) (calm : Rose f g → ⊥) (fine : Each (λ (e : Ending). e.faults ≡ 0) links) (lawful : Each (λ (e : Ending). IsLawful e.dialogue) links) where
+  pub none_faulted : (first : ℕ) (runs : List MemberRun) (checks : List Check) → AreTold p links f g lane false first runs checks → HasNoFault runs
+  none_faulted first [] checks told = tt
+  none_faulted first (r ∷ runs) checks told =
+      let none = no_cause links f g calm fine lawful in
+      let here = not_faulted (HasCauseOf links f g false) none (walk_of p r.member.0 told.0).ending (length told.0) r.verdict told.3.told.verdict in (
+        here,
+        none_faulted (first + length told.0) runs told.1 (subst (λ b. AreTold p links f g lane b (first + length told.0) runs told.1) here told.4),
       )
 
 -- ---- by unsat alone no walk fails
@@ -107,21 +107,11 @@ by_unsat C e asked (verdict.Fault x) has never fine below = cc
 
 -- ---- a run whose checks were all answered unsat passed
 
-module _ (p : Program) (before now : List Ending) (f g : ℕ) (all : List Check) where
-  have_passed : (lost : Bool) (first : ℕ) (runs : List MemberRun) (done checks : List Check) → all ≡ done ++ checks → first ≡ length done
-      → AreTold p before now f g lost first runs checks → HasNoFault runs → HasNoLimit runs
-      → Each (λ (r : MemberRun). AllUnsat (sequence_of r all) → has_passed r.verdict ≡ true) runs
-  have_passed lost first [] done checks is place told fine below = tt
-  have_passed lost first (r ∷ runs) done checks is place told fine below =
-      let own = told.0 in
-      let whole : all ≡ done ++ (own ++ told.1) = is ∙ ap (λ x. done ++ x) told.2 in
-      let mine : sequence_of r all ≡ own = ap (sequence_of r) whole ∙ own_sequence r done own told.1 (told.3.first_is ∙ place) told.3.count in
-      let longer = length-append done own in (
-        λ unsat. by_unsat (HasCauseOf before now f g lost) (walk_of p r.member.0 own).ending (length own) r.verdict told.3.told.verdict
-            (through (member_tree p r.member.0) passed passed_never (replies_to own) (unsat_replies own (subst AllUnsat mine unsat))) fine.0 below.0,
-        have_passed (lost || is_faulted r.verdict) (first + length own) runs (done ++ own) told.1
-            (whole ∙ sym (append_assoc done own told.1)) (omega arith) told.4 fine.1 below.1,
-      )
+pub has_passed_by : (p : Program) (links : List Ending) (f g lane : ℕ) (all : (lane : ℕ) → List Check) (r : MemberRun) → Sequenced p links f g lane all r → is_faulted r.verdict ≡ false
+    → (r.verdict ≡ verdict.Limit → ⊥) → AllUnsat (sequence_of r all) → has_passed r.verdict ≡ true
+has_passed_by p links f g lane all r s fine below unsat =
+    by_unsat (HasCauseOf links f g s.lost) (walk_of p r.member.0 s.own).ending (length s.own) r.verdict s.told.verdict
+    (through (member_tree p r.member.0) passed passed_never (replies_to s.own) (unsat_replies s.own (subst AllUnsat s.mine unsat))) fine below
 
 -- ---- where nothing holds a member up, it is verified
 
@@ -148,7 +138,7 @@ named_each : (p : Program) (runs : List MemberRun) → AreNamed p runs → Each 
 named_each p [] named = tt
 named_each p (r ∷ runs) named = (named zero r (omega arith), named_each p runs (λ n d below. named (suc n) d (let k = below in omega arith)))
 
-module _ (p : Program) (all : List Check) (runs : List MemberRun) (rested : AreRested p runs) (named : AreNamed p runs)
+module _ (p : Program) (all : (lane : ℕ) → List Check) (runs : List MemberRun) (rested : AreRested p runs) (named : AreNamed p runs)
     (passing : Each (λ (r : MemberRun). AllUnsat (sequence_of r all) → has_passed r.verdict ≡ true) runs) where
   passes : (n : ℕ) → Under AllUnsat p n runs all → (q : MemberRun) → IsIn q runs → LeadsTo p n q.member.0 → has_passed q.verdict ≡ true
   passes n unsat q inside leads =
@@ -164,10 +154,8 @@ module _ (p : Program) (all : List Check) (runs : List MemberRun) (rested : AreR
       let found = first_is (HoldsUp p n) runs m held in
       not_both found.0.verdict (passes n unsat found.0 found.1 found.2.0) found.2.1)
 
-pub complete : (p : Program) (before now : List Ending) (f g : ℕ) (runs : List MemberRun) (checks : List Check)
-    → AreTold p before now f g false 0 runs checks → AreRested p runs → AreNamed p runs → IsComplete p before now f g runs checks
-complete p before now f g runs checks told rested named = record {
-  no_fault = λ calm lawful. none_faulted p before now f g calm lawful 0 runs checks told;
-  verified = λ fine below. in_each (λ (r : MemberRun). Under AllUnsat p r.member.0 runs checks → r.verdict ≡ verdict.Verified) runs
-      (λ r inside unsat. is_verified p checks runs rested named (have_passed p before now f g checks false 0 runs [] checks refl refl told fine below) r inside unsat);
-}
+-- so each member is verified
+pub all_verified : (p : Program) (all : (lane : ℕ) → List Check) (runs : List MemberRun) → AreRested p runs → AreNamed p runs
+    → Each (λ (r : MemberRun). AllUnsat (sequence_of r all) → has_passed r.verdict ≡ true) runs → Each (λ (r : MemberRun). Under AllUnsat p r.member.0 runs all → r.verdict ≡ verdict.Verified) runs
+all_verified p all runs rested named passing =
+    in_each (λ (r : MemberRun). Under AllUnsat p r.member.0 runs all → r.verdict ≡ verdict.Verified) runs (λ r inside unsat. is_verified p all runs rested named passing r inside unsat)

@@ -1,5 +1,5 @@
 -- The symbols of a program's functions: they have their numbers in order, and their sorts are built in.
-use Rattle.std.proofs.Common.{◌≡◌, ℕ, suc, ◌+◌, ◌≤◌, ◌++◌, ◌∷◌, [], List, Some, drop, length, slice_get, refl, ap, ◌∙◌, sym, subst, add-one, append-nil}
+use Rattle.std.proofs.Common.{◌≡◌, ℕ, suc, false, ◌+◌, ◌≤◌, ◌++◌, ◌∷◌, [], List, Some, drop, length, slice_get, refl, ap, ◌∙◌, sym, subst, add-one, append-nil}
 use Rattle.std.proofs.Math.Seq.{drop-cons}
 use Rattle.std.proofs.Math.ListN.{drop_of_length-le}
 use Rattle.std.proofs.lemmas.Option.{get_or_from_slice_get, slice_get_within}
@@ -7,11 +7,13 @@ use Rattle.vx_ast.specs.Syntax.{Program, Member, Declaration, Kind, IsField, IsP
 use Rattle.vx_terms.specs.Sorts.{Sort, IntSort, BoolSort, RealSort, RefSort, SnapSort, OtherSort, Function}
 use Rattle.vx_terms.specs.Interpretations.{Each}
 use Rattle.vx_smt_meaning.specs.Commands.{Declared}
-use Rattle.vx_smt_meaning.specs.Names.{IsName, IsSortName, AreSortNames}
+use Rattle.vx_smt_meaning.specs.Names.{IsName, IsSortName, AreSortNames, AreCommands}
 use Rattle.vx_live.specs.Functions.{sorts_of_types, with_kind, symbols_from, function_symbols}
 use Rattle.vx_live.specs.Live.{IsBuiltIn}
 use Rattle.vx_live.proofs.Over.{built_type}
+use Rattle.vx_dialogue.specs.Preamble.{preamble}
 use Rattle.vx_verifier.specs.Steady.{AreSpelled}
+use Rattle.vx_verifier.proofs.Steady.{begun_named}
 
 -- ---- the members one by one
 
@@ -82,3 +84,7 @@ sort_names (a ∷ xs) h = (built_name a h.0, sort_names xs h.1)
 pub symbols_spelled : (n : ℕ) (ds : List Declared) → AreSymbols n ds → AreSpelled ds
 symbols_spelled n [] h = tt
 symbols_spelled n (d ∷ ds) h = ((subst IsName (sym h.0.symbol) tt, sort_names d.takes h.0.takes, built_name d.gives h.0.gives), symbols_spelled (suc n) ds h.1)
+
+-- and so are those of the preamble that declares them
+pub symbols_named : (p : Program) (functions : List Declared) → functions ≡ function_symbols p → AreCommands (preamble false functions)
+symbols_named p functions is = begun_named functions (subst AreSpelled (sym is) (symbols_spelled 0 (function_symbols p) (are_symbols p)))

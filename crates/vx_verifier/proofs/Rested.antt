@@ -42,9 +42,9 @@ spent_rests lost p n k own v w same later spent = subst (λ (i : ℕ). IsSpentAf
     go true (inl same) spent = (spent.0, λ asks. same ∙ spent.1 asks)
     go true (inr rests) spent = (spent.0, λ asks. absurd (spent_passed v rests.0 (spent.1 asks)))
 
-module _ (p : Program) (before now : List Ending) (f g : ℕ) where
+module _ (p : Program) (links : List Ending) (f g lane : ℕ) where
   pub all_told : (lost : Bool) (first : ℕ) (runs rested : List MemberRun) (checks : List Check) → AreLater runs rested
-      → AreTold p before now f g lost first runs checks → AreTold p before now f g lost first rested checks
+      → AreTold p links f g lane lost first runs checks → AreTold p links f g lane lost first rested checks
   all_told lost first [] [] checks later told = told
   all_told lost first [] (s ∷ rested) checks later told = absurd later
   all_told lost first (r ∷ runs) [] checks later told = absurd later
@@ -55,14 +55,14 @@ module _ (p : Program) (before now : List Ending) (f g : ℕ) where
         told.1,
         told.2,
         record {
-          lane = later.1 ∙ told.3.lane;
+          own_lane = later.1 ∙ told.3.own_lane;
           child = later.2 ∙ told.3.child;
           first_is = later.3 ∙ told.3.first_is;
           count = told.3.count ∙ sym later.4;
-          told = told_rests p r.member.0 s.member.0 (HasCauseOf before now f g lost) told.0 r.verdict s.verdict member later.5 told.3.told;
+          told = told_rests p r.member.0 s.member.0 (HasCauseOf links f g lost) told.0 r.verdict s.verdict member later.5 told.3.told;
           spent = spent_rests lost p r.member.0 s.member.0 told.0 r.verdict s.verdict member later.5 told.3.spent;
         },
-        subst (λ b. AreTold p before now f g (lost || b) (first + length told.0) rested told.1) (sym same)
+        subst (λ b. AreTold p links f g lane (lost || b) (first + length told.0) rested told.1) (sym same)
             (all_told (lost || is_faulted r.verdict) (first + length told.0) runs rested told.1 later.6 told.4),
       )
 

@@ -1,4 +1,4 @@
--- What the one child is asked can be asked, and what is asserted is well-sorted.
+-- What a lane's child is asked can be asked, and what is asserted is well-sorted.
 use Rattle.std.proofs.Common.{◌≡◌, ℕ, List, [], ◌∷◌, ◌++◌, false, map, sym, subst}
 use Rattle.vx_terms.specs.Sorts.{Sort, BoolSort}
 use Rattle.vx_terms.specs.Terms.{Term, sort_of}

@@ -1,5 +1,5 @@
 -- Why a member has no verdict of its own, and what leaves no such cause.
-use Rattle.std.specs.Prelude.{◌≡◌, ◌⊎◌, ℕ, ◌<◌, Bool, true, false, List, ◌∷◌, ◌++◌}
+use Rattle.std.specs.Prelude.{◌≡◌, ◌⊎◌, ℕ, ◌<◌, Bool, true, false, List, [], ◌∷◌, ◌++◌}
 use Rattle.vx_terms.specs.Interpretations.{Each}
 use Rattle.vx_ends.specs.declared.piece.Piece.{Piece}
 use Rattle.vx_ends.specs.declared.piece.Ending.{Ending}
@@ -13,20 +13,20 @@ use Rattle.vx_report.specs.declared.run.Cause.TheVariants as cause
 abbrev pub IsUnlawful : List Piece → (kept : List ℕ) → Type 0
 IsUnlawful pieces kept = Stops pieces (λ w bytes. IsGarbled w bytes kept) ⊎ Stops pieces (λ w bytes. IsRefused bytes kept)
 
--- among the links that were handed back since, one with this property
-abbrev pub SomeEnding : (before now : List Ending) → (Ending → Type 0) → Type 0
-SomeEnding before now P = (ending : Ending) × (later : List Ending) × (now ≡ before ++ ending ∷ later) × P ending
+-- the one link of a lane that was handed back has this property
+abbrev pub LinkHas : List Ending → (Ending → Type 0) → Type 0
+LinkHas links P = (ending : Ending) × (links ≡ ending ∷ []) × P ending
 
 -- all links that were handed back since have this property
 abbrev pub EachEnding : (before now : List Ending) → (Ending → Type 0) → Type 0
 EachEnding before now P = (since : List Ending) → now ≡ before ++ since → Each P since
 
--- why a member has no verdict of its own, where the child was lost before or not
-abbrev pub HasCauseOf : (before now : List Ending) (faults_then faults_now : ℕ) → (lost : Bool) → Cause → Type 0
-HasCauseOf before now faults_then faults_now lost cause.Pipe = (lost ≡ false) × SomeEnding before now (λ e. 0 < e.faults)
-HasCauseOf before now faults_then faults_now lost cause.Start = (lost ≡ false) × Rose faults_then faults_now
-HasCauseOf before now faults_then faults_now lost cause.Spent = lost ≡ true
-HasCauseOf before now faults_then faults_now lost (cause.Reply kept) = (lost ≡ false) × SomeEnding before now (λ e. IsUnlawful e.dialogue kept)
+-- why a member has no verdict of its own, by the links of its own lane that were handed back, where the lane's child was lost before or not
+abbrev pub HasCauseOf : (links : List Ending) (faults_then faults_now : ℕ) → (lost : Bool) → Cause → Type 0
+HasCauseOf links faults_then faults_now lost cause.Pipe = (lost ≡ false) × LinkHas links (λ e. 0 < e.faults)
+HasCauseOf links faults_then faults_now lost cause.Start = (lost ≡ false) × Rose faults_then faults_now
+HasCauseOf links faults_then faults_now lost cause.Spent = lost ≡ true
+HasCauseOf links faults_then faults_now lost (cause.Reply kept) = (lost ≡ false) × LinkHas links (λ e. IsUnlawful e.dialogue kept)
 
 -- No count of faults rose: neither the spawner's, nor that of a link that was handed back since.
 pub record NoCountRose (before now : List Ending) (faults_then faults_now : ℕ) : Type 0 where

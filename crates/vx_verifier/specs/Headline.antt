@@ -1,5 +1,5 @@
--- What the runs of a program's members promise: each verdict is that of the walk over the replies that the record of
--- the child's link tells, and a member that is verified by right replies, its own and those of the members that it leads to,
+-- What the runs of a program's members promise, lane by lane: each verdict is that of the walk over the replies that the record of
+-- the link of the lane's child tells, and a member that is verified by right replies, its own and those of the members that it leads to,
 -- fails at no place; and a method of fields, loops and calls that failed by a right sat fails at the place that is told.
 use Rattle.std.specs.Prelude.{◌≡◌, ◌⊎◌, ℕ, ◌+◌, ◌<◌, ◌≤◌, ◌||◌, ⊤, Bool, true, false, List, [], ◌∷◌, ◌++◌, Some, length, map, take, drop, slice_get, if◌then◌else◌}
 use Rattle.std.specs.List.{list_any}
@@ -36,6 +36,7 @@ use Rattle.vx_real.specs.Law.{IsInFieldFragment}
 use Rattle.vx_verifier.specs.Sequences.{AreChecksOf, replies_to, IsRight, LastIsPossible, AllUnsat}
 use Rattle.vx_verifier.specs.Causes.{HasCauseOf, NoCountRose, AllLawful}
 use Rattle.vx_verifier.specs.Lines.{lines}
+use Rattle.vx_verifier.specs.Dealt.{IsDealt, runs_in, links_in}
 
 -- the program is typed as a whole, and no two of its members have one name
 pub record IsWhole (p : Program) : Type 0 where
@@ -86,21 +87,21 @@ pub record IsTold (p : Program) (n : ℕ) (HasCause : Cause → Type 0) (own : L
   pub few : length own ≤ 100000
   pub verdict : IsVerdictOf HasCause (walk_of p n own).ending (length own) v
 
-module _ (p : Program) (before now : List Ending) (faults_then faults_now : ℕ) where
-  -- A run, with the checks of its own, of which the first has this number; the lane was lost before, or not.
+module _ (p : Program) (links : List Ending) (faults_then faults_now : ℕ) (lane : ℕ) where
+  -- A run of this lane, whose links these are, with the checks of its own, of which the first has this number; the lane was lost before, or not.
   pub record IsRunOf (lost : Bool) (first : ℕ) (own : List Check) (r : MemberRun) : Type 0 where
-    -- there is one lane, and it has one child
-    pub lane : r.lane ≡ 0
+    -- a lane has one child
+    pub own_lane : r.lane ≡ lane
     pub child : r.child ≡ 0
     -- it tells where its checks begin, and how many they are
     pub first_is : r.first ≡ first
     pub count : length own ≡ r.checks
     -- its checks are its member's questions, and its verdict is that of the walk
-    pub told : IsTold p r.member.0 (HasCauseOf before now faults_then faults_now lost) own r.verdict
+    pub told : IsTold p r.member.0 (HasCauseOf links faults_then faults_now lost) own r.verdict
     -- after a fault nothing is asked
     pub spent : IsSpentAfter lost p r.member.0 own r.verdict
 
-  -- Each run tells what became of its member; their checks follow one another, from number `first` on.
+  -- Each run of the lane tells what became of its member; their checks follow one another, from number `first` on.
   abbrev pub AreTold : (lost : Bool) (first : ℕ) → List MemberRun → List Check → Type 0
   AreTold lost first [] checks = checks ≡ []
   AreTold lost first (r ∷ runs) checks =
@@ -134,7 +135,7 @@ asked_turns lost p n own v = asks_of (walk_of p n own).answered ++ failed_turn l
 abbrev pub member_turns : (lost : Bool) → Program → ℕ → List Check → Verdict → List Turn
 member_turns lost p n own v = asked_turns lost p n own v ++ left_turn (lost || is_faulted v)
 
--- All that the one child is asked, run by run: the questions that the member's walk answered, and that it is left.
+-- All that a lane's child is asked, run by run: the questions that the member's walk answered, and that it is left.
 -- At a fault the open question of the walk is the last, and has no reply.
 abbrev pub turns_of : (lost : Bool) → Program → List MemberRun → List Check → List Turn
 turns_of lost p [] checks = []
@@ -146,19 +147,19 @@ abbrev pub lost_after : Bool → List MemberRun → Bool
 lost_after lost [] = lost
 lost_after lost (r ∷ runs) = lost_after (lost || is_faulted r.verdict) runs
 
--- The links that were handed back since tell of these turns and checks: there is none, where there are no checks; else the one of lane 0. What was sent there is the text
+-- The links of a lane that were handed back tell of these turns and checks: there is none, where there are no checks; else one. What was sent there is the text
 -- of exactly these turns, with no proof asked for, behind the declarations of these symbols f; where it failed, a beginning of it.
-abbrev pub IsRecorded : (functions : List Declared) → (failed : Bool) → (before now : List Ending) → List ScopedTurn → List Check → Type 0
-IsRecorded functions failed before now turns checks =
-    ((now ≡ before) × (checks ≡ [])) ⊎ ((ending : Ending) × (now ≡ before ++ ending ∷ []) × (ending.lane ≡ 0) × Tells failed (script false functions turns) ending.dialogue checks)
+abbrev pub IsRecorded : (functions : List Declared) → (failed : Bool) → (links : List Ending) → List ScopedTurn → List Check → Type 0
+IsRecorded functions failed links turns checks =
+    ((links ≡ []) × (checks ≡ [])) ⊎ ((ending : Ending) × (links ≡ ending ∷ []) × Tells failed (script false functions turns) ending.dialogue checks)
 
--- all that the child is told in these turns
+-- all that a child is told in these turns
 abbrev pub script_of : Program → List ScopedTurn → List Command
 script_of p turns = script false (function_symbols p) turns
 
--- the checks of a run: so many, from its first on
-abbrev pub sequence_of : MemberRun → List Check → List Check
-sequence_of r checks = take r.checks (drop r.first checks)
+-- the checks of a run: so many, from its first on, of those of its lane
+abbrev pub sequence_of : MemberRun → ((lane : ℕ) → List Check) → List Check
+sequence_of r checks = take r.checks (drop r.first (checks r.lane))
 
 abbrev pub HasNoFault : List MemberRun → Type 0
 HasNoFault runs = Each (λ (r : MemberRun). is_faulted r.verdict ≡ false) runs
@@ -167,21 +168,21 @@ abbrev pub HasNoLimit : List MemberRun → Type 0
 HasNoLimit runs = Each (λ (r : MemberRun). r.verdict ≡ verdict'.Limit → ⊥) runs
 
 -- this holds of the checks of each member that member n leads to, itself among them
-abbrev pub Under : (List Check → Type 0) → Program → ℕ → List MemberRun → List Check → Type 0
+abbrev pub Under : (List Check → Type 0) → Program → ℕ → List MemberRun → ((lane : ℕ) → List Check) → Type 0
 Under Holds p n runs checks = Each (λ (r : MemberRun). LeadsTo p n r.member.0 → Holds (sequence_of r checks)) runs
 
 -- The headline: a member that is verified doesn't fail, where the checks of all that it leads to are right.
-abbrev pub AreSound : Program → List MemberRun → List Check → Type 0
+abbrev pub AreSound : Program → List MemberRun → ((lane : ℕ) → List Check) → Type 0
 AreSound p runs checks = Each (λ (r : MemberRun). r.verdict ≡ verdict'.Verified → Under (λ own. Each IsRight own) p r.member.0 runs checks → NeverFails p r.member.0) runs
 
 -- A failure that is told by a right sat is one of a run, for methods that lead to fields, loops and calls alone.
-abbrev pub AreReal : Program → List MemberRun → List Check → Type 0
+abbrev pub AreReal : Program → List MemberRun → ((lane : ℕ) → List Check) → Type 0
 AreReal p runs checks = Each (λ (r : MemberRun). (at : Place) (c : Code) (m : Member) (f : Method) → r.verdict ≡ verdict'.Failed at c Sat → slice_get p r.member.0 ≡ Some m → m.kind ≡ IsMethod f
     → IsInFieldFragment p m.name → LastIsPossible (sequence_of r checks) → MethodFails p f at) runs
 
 -- Where no count rose and all replies were lawful, no verdict is a fault. Where none is a limit either, each member is verified
 -- if the checks of all that it leads to were answered unsat.
-pub record IsComplete (p : Program) (before now : List Ending) (faults_then faults_now : ℕ) (runs : List MemberRun) (checks : List Check) : Type 0 where
+pub record IsComplete (p : Program) (before now : List Ending) (faults_then faults_now : ℕ) (runs : List MemberRun) (checks : (lane : ℕ) → List Check) : Type 0 where
   pub no_fault : NoCountRose before now faults_then faults_now → AllLawful before now → HasNoFault runs
   pub verified : HasNoFault runs → HasNoLimit runs → Each (λ (r : MemberRun). Under AllUnsat p r.member.0 runs checks → r.verdict ≡ verdict'.Verified) runs
 
@@ -190,29 +191,40 @@ abbrev pub members_of : List MemberRun → List ℕ
 members_of runs = map (λ r. r.member.0) runs
 
 -- Where all members are verified, and by right checks alone, no whole run of a method fails: one in which calls run their callees' bodies, and loops go round.
-abbrev pub KeepsWholeRuns : Program → List MemberRun → List Check → Type 0
-KeepsWholeRuns p runs checks = Each (λ (r : MemberRun). r.verdict ≡ verdict'.Verified) runs → Each IsRight checks → NoWholeRunFails p
+abbrev pub KeepsWholeRuns : Program → (jobs : ℕ) → List MemberRun → ((lane : ℕ) → List Check) → Type 0
+KeepsWholeRuns p jobs runs checks = Each (λ (r : MemberRun). r.verdict ≡ verdict'.Verified) runs → ((lane : ℕ) → lane < jobs → Each IsRight (checks lane)) → NoWholeRunFails p
 
 -- an assertion is well-sorted
 abbrev pub IsWellSorted : Command → Type 0
 IsWellSorted (Assert t) = (n : ℕ) × Formed n t BoolSort
 IsWellSorted c = ⊤
 
--- The promise: a run for each member that has a line, in file order, by the replies that the record of the one child tells, which was told the symbols of the program's functions, and asked
--- exactly the questions of the members' walks; a member whose walk passed is verified, or rests on the first that it leads to whose walk didn't.
-pub record Headline (p : Program) (before now : List Ending) (faults_then faults_now : ℕ) (runs : List MemberRun) : Type 0 where
-  pub checks : List Check
+-- What is said of one lane: its runs by the replies that the record of its child's link tells, which was told the symbols of the program's functions, and asked exactly the questions
+-- of the walks of the lane's members.
+pub record IsLane (p : Program) (links : List Ending) (faults_then faults_now : ℕ) (lane : ℕ) (turns : List ScopedTurn) (checks : List Check) (runs : List MemberRun) : Type 0 where
   -- what the child was asked, each path with the numbers of its segments
-  pub turns : List ScopedTurn
   pub asked : map plain turns ≡ turns_of false p runs checks
-  pub recorded : IsRecorded (function_symbols p) (lost_after false runs) before now turns checks
+  pub recorded : IsRecorded (function_symbols p) (lost_after false runs) links turns checks
   -- names are spelled, each symbol is declared before it is used, with its sorts, and no live one again; what is asserted is of sort Bool
   pub well_formed : IsWellFormed (script_of p turns)
   pub sorted : Each IsWellSorted (script_of p turns)
+  pub told : AreTold p links faults_then faults_now lane false 0 runs checks
+
+-- The promise: a run for each member that has a line, in file order, dealt to so many lanes, each with one child; in each lane by its own links; a member whose walk passed is verified, or rests
+-- on the first that it leads to whose walk didn't.
+pub record Headline (p : Program) (jobs : ℕ) (before now : List Ending) (faults_then faults_now : ℕ) (runs : List MemberRun) : Type 0 where
+  -- the checks of each lane's child, and what it was asked
+  pub checks : (lane : ℕ) → List Check
+  pub turns : (lane : ℕ) → List ScopedTurn
+  -- the links that were handed back since
+  pub since : List Ending
+  pub is : now ≡ before ++ since
+  pub within : Each (λ (e : Ending). e.lane < jobs) since
   pub each : members_of runs ≡ lines p
-  pub told : AreTold p before now faults_then faults_now false 0 runs checks
+  pub dealt : IsDealt jobs 0 runs
+  pub lanes : (lane : ℕ) → lane < jobs → IsLane p (links_in lane since) faults_then faults_now lane (turns lane) (checks lane) (runs_in lane runs)
   pub rested : AreRested p runs
   pub sound : AreSound p runs checks
-  pub whole_runs : KeepsWholeRuns p runs checks
+  pub whole_runs : KeepsWholeRuns p jobs runs checks
   pub real : AreReal p runs checks
   pub complete : IsComplete p before now faults_then faults_now runs checks

@@ -1,63 +1,95 @@
--- What holds of a lane between two questions.
-use Rattle.std.specs.Prelude.{◌≡◌, ℕ, ◌<◌, ◌==◌, ⊤, Bool, true, false, List, [], ◌∷◌, ◌++◌, length, map}
-use Rattle.vx_ast.specs.Syntax.{Program}
+-- What holds of a lane between two events.
+use Rattle.std.specs.Prelude.{◌≡◌, ℕ, ◌+◌, ◌<◌, ◌≤◌, ⊤, Bool, true, false, IsTrue, List, [], ◌∷◌, ◌++◌, map}
+use Rattle.vx_terms.specs.Terms.{Term}
+use Rattle.vx_terms.specs.Interpretations.{Each}
+use Rattle.vx_segments.specs.Segments.{Entry, terms}
 use Rattle.vx_smt_meaning.specs.Commands.{Declared}
 use Rattle.vx_smt_meaning.specs.Dialogues.{Check}
 use Rattle.vx_smt_meaning.specs.Names.{AreCommands}
 use Rattle.vx_ends.specs.declared.piece.Piece.{Piece}
 use Rattle.vx_ends.specs.declared.piece.Start.{Start}
 use Rattle.vx_ends.specs.declared.piece.Ending.{Ending}
-use Rattle.vx_smt_meaning.specs.declared.reply.Reply.{Reply}
-use Rattle.vx_rules.specs.Trees.{Question, walk}
-use Rattle.vx_terms.specs.Terms.{Term}
-use Rattle.vx_segments.specs.Segments.{terms}
-use Rattle.vx_machine.specs.Growth.{IsOpen}
-use Rattle.vx_machine.specs.Runs.{Follows, Told, EachAnswered, awaits, is_check, given, member_tree}
-use Rattle.vx_machine.specs.declared.machine.Machine.{Machine}
-use Rattle.vx_machine.specs.declared.machine.Ask.{Ask}
-use Rattle.vx_machine.specs.declared.machine.Ask.TheVariants.{Check as Due, Done}
+use Rattle.vx_rules.specs.Trees.{Question, Answered}
 use Rattle.vx_machine.specs.declared.machine.Outcome.{Outcome}
 use Rattle.vx_machine.specs.declared.machine.Outcome.TheVariants as outcome
 use Rattle.vx_dialogue.specs.Turns.{Turn, Asks, Posts}
 use Rattle.vx_dialogue.specs.Scripts.{Outside, ScopedTurn, plain, said_by, scope_from, script}
-use Rattle.vx_dialogue.specs.Bases.{standing}
-use Rattle.vx_dialogue.specs.Dialogue.{IsFree, has_failed, scope_of, Stands}
+use Rattle.vx_dialogue.specs.Scripts as scripts
+use Rattle.vx_dialogue.specs.Bases as bases
+use Rattle.vx_dialogue.specs.Dialogue.{IsFree, IsAsked, has_failed, link_of, scope_of, Stands, Awaits}
+use Rattle.vx_dialogue.specs.Steady.{IsSteady}
 use Rattle.vx_dialogue.specs.declared.talk.Talk.{Talk}
 use Rattle.vx_dialogue.specs.declared.talk.Talk.TheVariants as talk
+use Rattle.vx_live.specs.Functions.{function_symbols}
+use Rattle.vx_pool.specs.Events.{Event, standing}
+use Rattle.vx_pool.specs.Events as event
+use Rattle.vx_pool.specs.declared.stop.Stop.{Stop}
+use Rattle.vx_pool.specs.declared.stop.Stop.TheVariants as stop
 use Rattle.vx_report.specs.declared.run.Cause.{Cause}
 use Rattle.vx_report.specs.declared.run.Cause.TheVariants as cause
 use Rattle.vx_report.specs.declared.run.Verdict.{Verdict}
 use Rattle.vx_report.specs.declared.run.Verdict.TheVariants as verdict
-use Rattle.vx_report.specs.declared.run.MemberRun.{MemberRun}
-use Rattle.vx_verifier.specs.declared.lane.Child.{Child}
-use Rattle.vx_verifier.specs.declared.lane.Child.TheVariants.{NotStarted, Talking, Lost}
-use Rattle.vx_verifier.specs.declared.lane.Trouble.{Trouble}
-use Rattle.vx_verifier.specs.declared.lane.Trouble.TheVariants as trouble
-use Rattle.vx_verifier.specs.Sequences.{IsCheckOf, AreChecksOf, replies_to}
+use Rattle.vx_verifier.specs.declared.line.Child.{Child}
+use Rattle.vx_verifier.specs.declared.line.Child.TheVariants.{NotStarted, Talking, Lost}
+use Rattle.vx_verifier.specs.Sequences.{AreChecksOf}
 use Rattle.vx_verifier.specs.Causes.{HasCauseOf}
-use Rattle.vx_verifier.specs.Headline.{IsRecorded, IsTold, AreTold, IsSpentAfter, asks_of, turns_of, some_ask, members_of, lost_after}
+use Rattle.vx_report.specs.declared.run.MemberRun.{MemberRun}
+use Rattle.vx_smt_meaning.specs.declared.reply.Reply.{Reply}
+use Rattle.vx_verifier.specs.Headline.{IsRecorded, left_turn, members_of}
+use Rattle.vx_verifier.specs.Lines.{lines}
+use Rattle.vx_verifier.specs.Members.{AreRuns, every, runs_events}
+use Rattle.vx_verifier.specs.Dealt.{links_in, starts_in, started_where}
+use Rattle.vx_verifier.specs.Outsets.{Hub, Outset}
 
--- a child that talks has no open question and no earlier fault
-abbrev pub IsReady : {L : Type 0} → Child L → Type 0
-IsReady (Talking d) = IsFree d × (has_failed d ≡ false)
-IsReady NotStarted = ⊤
-IsReady Lost = ⊤
+-- ---- what the events of a lane say
 
--- it is ready, and where it talks its link is owed
-abbrev pub IsHeld : {L : Type 0} → Child L → ℕ → Type 0
-IsHeld (Talking d) owed = IsFree d × (has_failed d ≡ false) × (0 < owed)
-IsHeld NotStarted owed = ⊤
-IsHeld Lost owed = ⊤
+-- the question was asked, unless the child was lost before
+abbrev pub tried_turn : (lost : Bool) → Question → List Turn
+tried_turn true q = []
+tried_turn false q = Posts q.path q.condition ∷ []
 
--- all other lanes owe the links that they owed
-abbrev pub OthersOwe : (old new : ℕ → ℕ) → Type 0
-OthersOwe old new = (lane : ℕ) → (lane == 0) ≡ false → new lane ≡ old lane
+-- what the lane's child is asked in these events, where it was lost before or not
+abbrev pub turns_in : (lost : Bool) → List (Event Cause) → List Turn
+turns_in lost [] = []
+turns_in lost (event.Answered q r ∷ events) = Asks q.path q.condition ∷ turns_in lost events
+turns_in lost (event.Lost q x ∷ events) = tried_turn lost q ++ turns_in true events
+turns_in lost (event.Left ∷ events) = left_turn lost ++ turns_in lost events
+
+-- the questions that were answered
+abbrev pub answered_in : List (Event Cause) → List Answered
+answered_in [] = []
+answered_in (event.Answered q r ∷ events) = record { question = q; reply = r } ∷ answered_in events
+answered_in (event.Lost q x ∷ events) = answered_in events
+answered_in (event.Left ∷ events) = answered_in events
+
+-- a question was lost
+abbrev pub has_lost : List (Event Cause) → Bool
+has_lost [] = false
+has_lost (event.Answered q r ∷ events) = has_lost events
+has_lost (event.Lost q x ∷ events) = true
+has_lost (event.Left ∷ events) = has_lost events
+
+-- something was asked
+abbrev pub has_asked : List (Event Cause) → Bool
+has_asked [] = false
+has_asked (event.Answered q r ∷ events) = true
+has_asked (event.Lost q x ∷ events) = true
+has_asked (event.Left ∷ events) = has_asked events
+
+-- Each loss has its cause by these links of the lane, and behind the first one nothing is answered.
+abbrev pub AreCaused : (links : List Ending) (faults_then faults_now : ℕ) → (lost : Bool) → List (Event Cause) → Type 0
+AreCaused links faults_then faults_now lost [] = ⊤
+AreCaused links faults_then faults_now lost (event.Answered q r ∷ events) = (lost ≡ false) × AreCaused links faults_then faults_now lost events
+AreCaused links faults_then faults_now lost (event.Lost q x ∷ events) = HasCauseOf links faults_then faults_now lost x × AreCaused links faults_then faults_now true events
+AreCaused links faults_then faults_now lost (event.Left ∷ events) = AreCaused links faults_then faults_now lost events
+
+-- ---- a child
 
 -- how many links are out for a child
-abbrev pub links : {L : Type 0} → Child L → ℕ
-links (Talking d) = 1
-links NotStarted = 0
-links Lost = 0
+abbrev pub links_out : {L : Type 0} → Child L → ℕ
+links_out (Talking d) = 1
+links_out NotStarted = 0
+links_out Lost = 0
 
 abbrev pub is_lost : {L : Type 0} → Child L → Bool
 is_lost Lost = true
@@ -70,129 +102,146 @@ is_started NotStarted = false
 is_started (Talking d) = true
 is_started Lost = true
 
+-- a child that talks has no open question and no earlier fault
+abbrev pub IsReady : {L : Type 0} → Child L → Type 0
+IsReady (Talking d) = IsFree d × (has_failed d ≡ false)
+IsReady NotStarted = ⊤
+IsReady Lost = ⊤
+
 -- the path whose levels are open at a child
 abbrev pub standing_of : {L : Type 0} → Child L → List Term
-standing_of (Talking d) = terms (standing (scope_of d))
+standing_of (Talking d) = terms (bases.standing (scope_of d))
 standing_of NotStarted = []
 standing_of Lost = []
+
+-- the link of a child that talks is steady and has not failed
+abbrev pub IsSteadyChild : {L : Type 0} → (steady : L → Bool) → (faults : L → ℕ) → Child L → Type 0
+IsSteadyChild steady faults (Talking d) = IsSteady steady faults (link_of d)
+IsSteadyChild steady faults NotStarted = ⊤
+IsSteadyChild steady faults Lost = ⊤
 
 -- These turns say nothing, as long as no child is started.
 pub record AreSilent (turns : List ScopedTurn) : Type 0 where
   pub none : said_by Outside turns ≡ []
   pub outside : scope_from Outside turns ≡ Outside
 
--- These are the turns and the checks of the lane's child so far, which is told these symbols of functions first, with the links that were handed back before and by now. The names in what was said
+-- These are the turns and the checks of the lane's child so far, which is told these symbols of functions first, with the links of the lane that were handed back. The names in what was said
 -- to a child that talks are spelled.
-abbrev pub HearsScoped : {L : Type 0} → (L → List Piece) → (functions : List Declared) → (before now : List Ending) → Child L → List ScopedTurn → List Check → Type 0
-HearsScoped dialogue functions before now NotStarted turns checks = (now ≡ before) × (checks ≡ []) × AreSilent turns
-HearsScoped dialogue functions before now (Talking d) turns checks = (now ≡ before) × Stands dialogue false functions turns d checks × AreCommands (script false functions turns)
-HearsScoped dialogue functions before now Lost turns checks = IsRecorded functions true before now turns checks
+abbrev pub HearsScoped : {L : Type 0} → (L → List Piece) → (functions : List Declared) → (links : List Ending) → Child L → List ScopedTurn → List Check → Type 0
+HearsScoped dialogue functions links NotStarted turns checks = (links ≡ []) × (checks ≡ []) × AreSilent turns
+HearsScoped dialogue functions links (Talking d) turns checks = (links ≡ []) × Stands dialogue false functions turns d checks × AreCommands (script false functions turns)
+HearsScoped dialogue functions links Lost turns checks = IsRecorded functions true links turns checks
 
 -- so it is where the paths of these turns have some numbers of segments
-abbrev pub Hears : {L : Type 0} → (L → List Piece) → (functions : List Declared) → (before now : List Ending) → Child L → List Turn → List Check → Type 0
-Hears dialogue functions before now child turns checks = (scoped : List ScopedTurn) × (map plain scoped ≡ turns) × HearsScoped dialogue functions before now child scoped checks
+abbrev pub Hears : {L : Type 0} → (L → List Piece) → (functions : List Declared) → (links : List Ending) → Child L → List Turn → List Check → Type 0
+Hears dialogue functions links child turns checks = (scoped : List ScopedTurn) × (map plain scoped ≡ turns) × HearsScoped dialogue functions links child scoped checks
 
--- the links that were handed back since tell of these turns and checks, where the paths have some numbers of segments
-abbrev pub Records : (functions : List Declared) → (failed : Bool) → (before now : List Ending) → List Turn → List Check → Type 0
-Records functions failed before now turns checks = (scoped : List ScopedTurn) × (map plain scoped ≡ turns) × IsRecorded functions failed before now scoped checks
+-- and behind them the reply to this question is awaited
+abbrev pub AwaitsScoped : {L : Type 0} → (L → List Piece) → (functions : List Declared) → (links : List Ending) → Child L → List ScopedTurn → List Check → Question → Type 0
+AwaitsScoped dialogue functions links (Talking d) turns checks q =
+    (links ≡ []) × (path : List Entry) × (terms path ≡ q.path) × Awaits dialogue false functions turns path q.condition d checks
+    × AreCommands (script false functions (turns ++ scripts.Posts path q.condition ∷ [])) × IsAsked d × (has_failed d ≡ false)
+AwaitsScoped dialogue functions links NotStarted turns checks q = ⊥
+AwaitsScoped dialogue functions links Lost turns checks q = ⊥
 
--- one turn and one check more, of this question with this reply
-abbrev pub HearsOf : {L : Type 0} → (L → List Piece) → (functions : List Declared) → (before now : List Ending) → Child L → List Turn → List Check → Question → Reply → Type 0
-HearsOf dialogue functions before now child turns checks q r =
-    (check : Check) × Hears dialogue functions before now child (turns ++ Asks q.path q.condition ∷ []) (checks ++ check ∷ []) × IsCheckOf (record { question = q; reply = r }) check
+-- the links that were handed back tell of these turns and checks, where the paths have some numbers of segments
+abbrev pub Records : (functions : List Declared) → (failed : Bool) → (links : List Ending) → List Turn → List Check → Type 0
+Records functions failed links turns checks = (scoped : List ScopedTurn) × (map plain scoped ≡ turns) × IsRecorded functions failed links scoped checks
 
--- the command is started, once, or not
-abbrev pub StartsWhere : Bool → (before now : List Start) → Start → Type 0
-StartsWhere true before now start = now ≡ before ++ start ∷ []
-StartsWhere false before now start = now ≡ before
+-- ---- a lane
 
-abbrev pub Starts : {L : Type 0} → (before now : List Start) → Start → Child L → Type 0
-Starts before now start child = StartsWhere (is_started child) before now start
+-- No count has risen so far: the spawner is steady and its count the same, no link of this lane that was handed back has failed, nor has the child's.
+pub record IsCalm {L : Type 0} (steady_link : L → Bool) (faults_of : L → ℕ) (o : Outset) (lane : ℕ) (since : List Ending) (h : Hub) (child : Child L) : Type 0 where
+  pub spawner : IsTrue h.steady
+  pub starts : h.faults ≡ o.first.faults
+  pub links_are : Each (λ (e : Ending). e.faults ≡ 0) (links_in lane since)
+  pub child_is : IsSteadyChild steady_link faults_of child
 
-abbrev pub trouble_of : Talk → Trouble
-trouble_of talk.Pipe = trouble.Fault cause.Pipe
-trouble_of (talk.Garbled kept) = trouble.Fault (cause.Reply kept)
-trouble_of (talk.Refused kept) = trouble.Fault (cause.Reply kept)
-trouble_of talk.Want = trouble.Want
-trouble_of talk.Closed = trouble.Fault cause.Spent
+-- A lane's child over its spawner, whatever is open, and also where memory ran out: the link of a child that talks is out, and no other of its lane; the command was started once, or not; and over
+-- a steady spawner no count has risen.
+pub record IsHeld {L : Type 0} (steady_link : L → Bool) (faults_of : L → ℕ) (o : Outset) (lane : ℕ) (command : List (List ℕ)) (functions : List Declared) (child : Child L) (h : Hub) : Type 0 where
+  pub within : lane < o.jobs
+  pub command_is : command ≡ o.command
+  pub functions_are : functions ≡ function_symbols o.program
+  pub owed : h.owed lane ≡ o.first.owed lane + links_out child
+  pub since : List Ending
+  pub ended : h.ended ≡ o.first.ended ++ since
+  pub starts : List Start
+  pub started : h.starts ≡ o.first.starts ++ starts
+  pub once : starts_in lane starts ≡ started_where (is_started child) lane o.command
+  pub faults : o.first.faults ≤ h.faults
+  pub calm : IsTrue o.first.steady → IsCalm steady_link faults_of o lane since h child
 
-abbrev pub is_fault : Trouble → Bool
-is_fault (trouble.Fault x) = true
-is_fault trouble.Want = false
+-- No question is open: these events are what the lane's child was asked and answered, and what the links of the lane tell that were handed back.
+pub record HearsOf {L : Type 0} (dialogue : L → List Piece) (o : Outset) (lane : ℕ) (child : Child L) (h : Hub) (events : List (Event Cause)) : Type 0 where
+  pub since : List Ending
+  pub ended : h.ended ≡ o.first.ended ++ since
+  pub checks : List Check
+  pub answered : AreChecksOf (answered_in events) checks
+  pub heard : Hears dialogue (function_symbols o.program) (links_in lane since) child (turns_in false events) checks
+  pub caused : AreCaused (links_in lane since) o.first.faults h.faults false events
+  pub ready : IsReady child
+  pub lost : is_lost child ≡ has_lost events
+  pub stands : standing_of child ≡ standing events
 
--- want of memory needs no cause
-abbrev pub IsCausedBy : (Cause → Type 0) → Trouble → Type 0
-IsCausedBy HasCause (trouble.Fault x) = HasCause x
-IsCausedBy HasCause trouble.Want = ⊤
+-- and a child was started, or that was tried, exactly where something was asked
+pub record TellsOf {L : Type 0} (dialogue : L → List Piece) (o : Outset) (lane : ℕ) (child : Child L) (h : Hub) (events : List (Event Cause)) : Type 0 where
+  pub heard_of : HearsOf dialogue o lane child h events
+  pub started : is_started child ≡ has_asked events
 
--- the question was asked, unless the child was lost before
-abbrev pub tried_turn : (lost : Bool) → Question → List Turn
-tried_turn true q = []
-tried_turn false q = Posts q.path q.condition ∷ []
+-- The same where this question is open behind the events.
+pub record AsksOf {L : Type 0} (dialogue : L → List Piece) (o : Outset) (lane : ℕ) (child : Child L) (h : Hub) (events : List (Event Cause)) (q : Question) : Type 0 where
+  pub since : List Ending
+  pub ended : h.ended ≡ o.first.ended ++ since
+  pub checks : List Check
+  pub answered : AreChecksOf (answered_in events) checks
+  pub turns : List ScopedTurn
+  pub said : map plain turns ≡ turns_in false events
+  pub awaits : AwaitsScoped dialogue (function_symbols o.program) (links_in lane since) child turns checks q
+  pub caused : AreCaused (links_in lane since) o.first.faults h.faults false events
+  pub lost : has_lost events ≡ false
 
--- No reply came to this question: there is a cause; and where it is a fault, the links handed back tell of the turns and checks before. Where memory ran out an answer may be lost, and no report is made.
-abbrev pub Loses : (functions : List Declared) → (before now : List Ending) → (faults_then faults_now : ℕ) → (lost : Bool) → List Turn → List Check → Question → Trouble → Type 0
-Loses functions before now faults_then faults_now lost turns checks q t =
-    (is_fault t ≡ true → Records functions true before now (turns ++ tried_turn lost q) checks) × IsCausedBy (HasCauseOf before now faults_then faults_now lost) t
+-- The lane's link is handed back, if there was one: the lane owes what it owed, the command was started once, or not, and over a steady spawner no count has risen.
+pub record IsBack (o : Outset) (lane : ℕ) (h : Hub) : Type 0 where
+  pub owed : h.owed lane ≡ o.first.owed lane
+  pub since : List Ending
+  pub ended : h.ended ≡ o.first.ended ++ since
+  pub starts : List Start
+  pub started : h.starts ≡ o.first.starts ++ starts
+  pub once : (tried : Bool) × (starts_in lane starts ≡ started_where tried lane o.command)
+  pub calm : IsTrue o.first.steady → (h.faults ≡ o.first.faults) × Each (λ (e : Ending). e.faults ≡ 0) (links_in lane since)
 
--- a fault is the member's verdict, with its cause
-abbrev pub IsFaultOf : Trouble → Verdict → Type 0
-IsFaultOf (trouble.Fault x) v = v ≡ verdict.Fault x
-IsFaultOf trouble.Want v = ⊥
+-- And the links of the lane that were handed back tell these events.
+pub record IsToldOf (o : Outset) (lane : ℕ) (h : Hub) (events : List (Event Cause)) : Type 0 where
+  pub since : List Ending
+  pub ended : h.ended ≡ o.first.ended ++ since
+  pub starts : List Start
+  pub started : h.starts ≡ o.first.starts ++ starts
+  pub once : starts_in lane starts ≡ started_where (has_asked events) lane o.command
+  pub checks : List Check
+  pub answered : AreChecksOf (answered_in events) checks
+  pub recorded : Records (function_symbols o.program) (has_lost events) (links_in lane since) (turns_in false events) checks
+  pub caused : AreCaused (links_in lane since) o.first.faults h.faults false events
+
+-- ---- all lanes
+
+-- What is so of each lane that is handed back, if no want of memory came between: the events that its links tell are those of these runs, and a reply to each of their checks.
+pub record IsOver (o : Outset) (h : Hub) (lane : ℕ) (runs : List MemberRun) : Type 0 where
+  pub replies : List Reply
+  pub runs_are : AreRuns o.program lane 0 runs replies
+  pub told : IsToldOf o lane h (runs_events o.program runs replies)
+  pub members : members_of runs ≡ every o.jobs lane (lines o.program)
+
+-- ---- answers
+
+abbrev pub stop_of : Talk → Stop Cause
+stop_of talk.Pipe = stop.Fault cause.Pipe
+stop_of (talk.Garbled kept) = stop.Fault (cause.Reply kept)
+stop_of (talk.Refused kept) = stop.Fault (cause.Reply kept)
+stop_of talk.Want = stop.Want
+stop_of talk.Closed = stop.Fault cause.Spent
 
 abbrev pub verdict_of : Outcome → Verdict
 verdict_of outcome.Passed = verdict.Verified
 verdict_of (outcome.Failed place c r) = verdict.Failed place c r
 verdict_of (outcome.Limit n) = verdict.Limit
-
--- a question comes below the limit alone
-abbrev pub IsDue : Ask → (limit checks : ℕ) → Type 0
-IsDue (Due q) limit checks = checks < limit
-IsDue (Done o) limit checks = ⊤
-
--- a machine of this member with this answer, within the limit of checks, along the walk
-pub record IsRunning (p : Program) (n : ℕ) (machine : Machine) (ask : Ask) : Type 0 where
-  pub follows : Follows p machine
-  pub awaits : awaits machine.phase ≡ is_check ask
-  pub opened : IsOpen machine.phase ask
-  pub due : IsDue ask machine.limit (length machine.replies.items)
-  pub limit : machine.limit ≡ 100000
-  pub member : machine.member.0 ≡ n
-  pub told : Told ask (walk (member_tree p n) (given machine)) 100000 (length machine.replies.items)
-  pub answered : EachAnswered (walk (member_tree p n) (given machine)) (given machine)
-
--- the turns of a member so far
-abbrev pub turns_so_far : Program → Machine → List Turn
-turns_so_far p machine = asks_of (walk (member_tree p machine.member.0) (given machine)).answered
-
--- the checks of a member so far are the questions that the walk has answered, and their replies are the machine's
-pub record AreAsked (p : Program) (machine : Machine) (own : List Check) : Type 0 where
-  pub replies : replies_to own ≡ given machine
-  pub checks : AreChecksOf (walk (member_tree p machine.member.0) (given machine)).answered own
-
--- A member's execution came to this verdict after so many checks of its own, and these turns more.
-pub record Judges {L : Type 0} (dialogue : L → List Piece) (functions : List Declared) (p : Program) (n : ℕ) (before now : List Ending) (HasCause : Cause → Type 0) (lost : Bool) (child : Child L)
-    (turns : List Turn) (more : List Check → List Turn) (checks : List Check) (asked : ℕ) (v : Verdict) : Type 0 where
-  pub own : List Check
-  pub heard : Hears dialogue functions before now child (turns ++ more own) (checks ++ own)
-  pub count : length own ≡ asked
-  pub told : IsTold p n HasCause own v
-  pub spent : IsSpentAfter lost p n own v
-
--- the links that were handed back stay so
-pub record Handed (before now : List Ending) : Type 0 where
-  pub more : List Ending
-  pub is : now ≡ before ++ more
-
-abbrev pub Later : List Ending → List Ending → Type 0
-Later old new = (front : List Ending) → Handed front old → Handed front new
-
--- The members so far: their checks are those of the lane's child, so many, and each is told by its own.
-pub record Executes {L : Type 0} (dialogue : L → List Piece) (functions : List Declared) (p : Program) (before now : List Ending) (faults_then faults_now : ℕ) (child : Child L) (asked : ℕ)
-    (runs : List MemberRun) : Type 0 where
-  pub checks : List Check
-  pub heard : Hears dialogue functions before now child (turns_of false p runs checks) checks
-  pub count : length checks ≡ asked
-  pub told : AreTold p before now faults_then faults_now false 0 runs checks
-  pub lost : is_lost child ≡ lost_after false runs
-  pub started : is_started child ≡ some_ask p (members_of runs)

@@ -1,6 +1,11 @@
 pub mod Sequences
 pub mod Causes
+pub mod Dealt
 pub mod Headline
+pub mod Outsets
+pub mod Going
+pub mod Members
 pub mod Lanes
 pub mod Lines
 pub mod Steady
+pub mod Verifying

@@ -2,10 +2,12 @@
 //! `verify` are what is promised of that.
 #![tactic(auto)]
 
-mod execute;
-mod lane;
+mod line;
+mod members;
+mod outset;
 mod program;
 mod symbols;
+mod verifying;
 
-pub use execute::{Runs, Verification, verify};
 pub use program::{settled, typed_programs_are_whole};
+pub use verifying::{Runs, Verification, verify};
