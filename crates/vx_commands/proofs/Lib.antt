@@ -3,3 +3,5 @@ mod Scripts
 mod Readable
 mod Companions
 mod Untouched
+mod Either
+mod Due

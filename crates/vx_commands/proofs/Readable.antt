@@ -1,5 +1,5 @@
 -- What the companion is told can be read back, where the program is that of a text: it takes all but what is too deep.
-use Rattle.std.proofs.Common.{◌≡◌, ℕ, false, List, [], ◌∷◌, Option, Some, None, map, refl, sym, subst}
+use Rattle.std.proofs.Common.{◌≡◌, ℕ, ◌<◌, false, List, [], ◌∷◌, Option, Some, None, map, refl, sym, subst}
 use Rattle.std.specs.Prelude.{⊤, slice_get}
 use Rattle.vx_ast.specs.Syntax.{Program, Member}
 use Rattle.vx_ast.specs.Written as written
@@ -8,6 +8,7 @@ use Rattle.vx_terms.specs.Terms.{Term}
 use Rattle.vx_terms.specs.Build.{negate}
 use Rattle.vx_terms.specs.Interpretations.{Each}
 use Rattle.vx_smt_meaning.specs.Commands.{Command, SetOption, SetLogic, DeclareSort, DeclareFun, Assert, Push, Pop, CheckSat, GetProof, Exit}
+use Rattle.vx_smt_meaning.specs.Dialogues.{Check}
 use Rattle.vx_smt_meaning.specs.Standard.{standard_symbols}
 use Rattle.vx_smt_text.specs.Shaped.{IsShaped}
 use Rattle.vx_ends.specs.declared.piece.Ending.{Ending}
@@ -27,10 +28,11 @@ use Rattle.vx_readable.proofs.ShapeMembers.{members_shaped}
 use Rattle.vx_readable.proofs.Texts.{spelled_small}
 use Rattle.vx_report.specs.declared.run.MemberRun.{MemberRun}
 use Rattle.vx_companion.specs.Lawful.{IsTaken}
-use Rattle.vx_verifier.specs.Headline.{Headline, script_of}
+use Rattle.vx_verifier.specs.Dealt.{runs_in, links_in}
+use Rattle.vx_verifier.specs.Headline.{Headline, IsLane, script_of}
 use Rattle.vx_verifier.proofs.Said.{Asserts, HoldsOf, declared_all, script_all}
 use Rattle.vx_verifier.proofs.Askable.{AllAsk, turns_ask}
-use Rattle.vx_commands.specs.Reported.{IsShallow}
+use Rattle.vx_commands.specs.Reports.{IsShallow}
 
 -- the numerals of a program that a text spells
 pub spelled_numerals : (text : List ℕ) (w : written.Program) → Spells text w → HasSmallNumerals (resolve.program w)
@@ -95,11 +97,14 @@ all_taken : (cs : List Command) → Each IsShapedCommand cs → Each IsShallow c
 all_taken [] shaped shallow = tt
 all_taken (c ∷ cs) shaped shallow = (taken_by c shaped.0 shallow.0, all_taken cs shaped.1 shallow.1)
 
-module _ (p : Program) (small : HasSmallNumerals p) (before now : List Ending) (f g : ℕ) (runs : List MemberRun) (h : Headline p before now f g runs) where
-  asked_shaped : AreTurns AssertsShaped (map plain h.turns)
-  asked_shaped = subst (AreTurns AssertsShaped) (sym h.asked) (turns_ask AssertsShaped p before now f g (member_asserts p small) false 0 runs h.checks h.told)
+-- what isn't too deep is taken
+lane_taken : (p : Program) → HasSmallNumerals p → (links : List Ending) (f g lane : ℕ) (turns : List ScopedTurn) (checks : List Check) (runs : List MemberRun)
+    → IsLane p links f g lane turns checks runs → Each IsShallow (script_of p turns) → Each IsTaken (script_of p turns)
+lane_taken p small links f g lane turns checks runs h shallow =
+    let asked : AreTurns AssertsShaped (map plain turns) = subst (AreTurns AssertsShaped) (sym h.asked) (turns_ask AssertsShaped p links f g lane (member_asserts p small) false 0 runs checks h.told) in
+    all_taken (script_of p turns) (script_all IsShapedCommand IsShaped all_shaped (function_symbols p) turns first_shaped (turns_assert turns asked)) shallow
 
-  -- what isn't too deep is taken
-  pub script_taken : Each IsShallow (script_of p h.turns) → Each IsTaken (script_of p h.turns)
-  script_taken shallow =
-      all_taken (script_of p h.turns) (script_all IsShapedCommand IsShaped all_shaped (function_symbols p) h.turns first_shaped (turns_assert h.turns asked_shaped)) shallow
+module _ (p : Program) (small : HasSmallNumerals p) (jobs : ℕ) (before now : List Ending) (f g : ℕ) (runs : List MemberRun) (h : Headline p jobs before now f g runs) where
+  -- so it is in each lane
+  pub script_taken : ((lane : ℕ) → lane < jobs → Each IsShallow (script_of p (h.turns lane))) → (lane : ℕ) → lane < jobs → Each IsTaken (script_of p (h.turns lane))
+  script_taken shallow lane l = lane_taken p small (links_in lane h.since) f g lane (h.turns lane) (h.checks lane) (runs_in lane runs) (h.lanes lane l) (shallow lane l)

@@ -1,6 +1,7 @@
 -- What an answer says of its status.
-use Rattle.std.proofs.Common.{◌≡◌, ◌⊎◌, inl, inr, ℕ, Bool, true, false, List, [], Option, Some, None, refl, ap, ◌∙◌, sym, subst}
+use Rattle.std.proofs.Common.{◌≡◌, ◌⊎◌, inl, inr, ℕ, Bool, true, false, List, [], Option, Some, None, Result, vec_items, refl, ap, ◌∙◌, sym, subst}
 use Rattle.std.specs.Prelude.{if◌then◌else◌, not}
+use Rattle.std.specs.declared.alloc.AllocError.{AllocError}
 use Rattle.std.specs.List.{list_any}
 use Rattle.vx_report.specs.declared.run.MemberRun.{MemberRun}
 use Rattle.vx_report.specs.declared.status.Status.{Status}
@@ -10,10 +11,14 @@ use Rattle.vx_report.specs.Reports.{is_verified, is_faulted}
 use Rattle.vx_words.specs.declared.order.Order.{Order}
 use Rattle.vx_words.specs.declared.order.Order.TheVariants.{Verify, Check, Print, Gen, Work}
 use Rattle.vx_commands.specs.declared.saying.Saying.TheVariants as saying
-use Rattle.vx_commands.specs.declared.top.Ended.{Ended}
+use Rattle.vx_commands.specs.declared.output.Ended.{Ended}
+use Rattle.vx_commands.specs.declared.output.Output.{Output}
 use Rattle.vx_commands.specs.declared.reports.Telling.TheVariants.{Lines}
-use Rattle.vx_commands.specs.Outside.{Change, Texts, Taken, Children, HasFailedToRead, IsTooLong}
-use Rattle.vx_commands.specs.Reported.{is_companion, ByWhom, IsUnread, IsStatus, IsStatusOf, IsToldOf, IsTold, Says, SaysRefused, IsReport, IsCompanionReport, IsAnswer}
+use Rattle.vx_commands.specs.Outside.{Change, Texts, Taken, Spawners, Ends, HasFailedToRead, IsTooLong}
+use Rattle.vx_commands.specs.Texts.{IsToldOf, Says, SaysRefused}
+use Rattle.vx_commands.specs.Reports.{is_companion, ByWhom, IsReport, IsCompanionReport}
+use Rattle.vx_commands.specs.Promised.{IsTold, IsReportOf, IsDue, IsStatus, IsUnread, IsStatusOf, IsAnswer, Promise}
+use Rattle.vx_commands.specs.Steps.{Obeys}
 
 -- what is said of a text is done or refused
 abbrev OnlySays : (List ℕ → Status → List ℕ → Type 0) → Type 0
@@ -82,49 +87,67 @@ module _ (order : Option Order) (files : Change Texts) (sink : Change Taken) (ru
 of_told : (order : Option Order) (files : Change Texts) (sink : Change Taken) (runs : List MemberRun) (due : Status) (bytes : List ℕ) → IsTold order files due bytes → runs ≡ []
     → IsStatusOf order files sink runs due
 of_told None files sink runs due bytes told none = subst (λ x. IsStatusOf None files sink runs x) (sym told.0) (refl, none)
-of_told (Some (Verify file solver)) files sink runs due bytes told none = of_file (Some (Verify file solver)) files sink runs SaysRefused only_refused file (λ u. u) due bytes told none
+of_told (Some (Verify file solver jobs)) files sink runs due bytes told none =
+    of_file (Some (Verify file solver jobs)) files sink runs SaysRefused only_refused file (λ u. u) due bytes told none
 of_told (Some (Check file)) files sink runs due bytes told none = of_file (Some (Check file)) files sink runs (Says saying.Typed) only_checked file (λ u. u) due bytes told none
 of_told (Some (Print file)) files sink runs due bytes told none = of_file (Some (Print file)) files sink runs (Says saying.Canonical) only_printed file (λ u. u) due bytes told none
 of_told (Some (Gen methods)) files sink runs due bytes told none = subst (λ x. IsStatusOf (Some (Gen methods)) files sink runs x) (sym told.done) (ap status_among none)
-of_told (Some (Work methods)) files sink runs due bytes told none = absurd told
+of_told (Some (Work methods jobs)) files sink runs due bytes told none = absurd told
 
 by_either : (b : Bool) (A B C : Type 0) → (A → C) → (B → C) → ByWhom b A B → C
 by_either true A B C f g h = f h
 by_either false A B C f g h = g h
 
-pub status_told : (order : Option Order) (files : Change Texts) (companion handed : Change Children) (sink : Change Taken) (ended : Ended)
-    → IsAnswer order files companion handed sink ended → IsStatusOf order files sink ended.runs.items ended.status
-status_told order files companion handed sink ended (inl nothing) = subst (λ x. IsStatusOf order files sink ended.runs.items x) (sym nothing.status) nothing.none
-status_told order files companion handed sink ended (inr (inl alone)) =
-    let told = alone.told in
-    let said = told.3 in
-    of_status order files sink ended.runs.items told.0 ended.status (of_told order files sink ended.runs.items told.0 told.1 told.2 said.none) said.status
-status_told None files companion handed sink ended (inr (inr report)) = absurd report
-status_told (Some (Check file)) files companion handed sink ended (inr (inr report)) = absurd report
-status_told (Some (Print file)) files companion handed sink ended (inr (inr report)) = absurd report
-status_told (Some (Gen methods)) files companion handed sink ended (inr (inr report)) = absurd report
-status_told (Some (Work methods)) files companion handed sink ended (inr (inr report)) =
-    of_status (Some (Work methods)) files sink ended.runs.items (status_among ended.runs.items) ended.status (of_runs (Some (Work methods)) files sink ended.runs.items) report.0.2.report.status
-status_told (Some (Verify file solver)) files companion handed sink ended (inr (inr report)) =
-    let order = Some (Verify file solver) in
-    let runs = ended.runs.items in
-    let p = report.2.0 in
-    by_either (is_companion solver) (IsCompanionReport Lines p solver companion sink ended) (IsReport Lines p solver handed sink ended) _
-    (λ h. of_status order files sink runs (status_among runs) ended.status (of_runs order files sink runs) h.report.status)
-    (λ h. of_status order files sink runs (status_among runs) ended.status (of_runs order files sink runs) h.status) report.2.2
+module _ (files : Change Texts) (spawners : Spawners) (sink : Change Taken) (output : Output) where
+  -- the status of a report
+  reported : (order : Option Order) → output.status ≡ status_among output.runs.items → IsStatusOf order files sink output.runs.items output.status
+  reported order is = subst (λ x. IsStatusOf order files sink output.runs.items x) (sym is) (of_runs order files sink output.runs.items)
+
+  of_report : (order : Option Order) → IsReportOf order files spawners output → IsStatusOf order files sink output.runs.items output.status
+  of_report None report = absurd report
+  of_report (Some (Check file)) report = absurd report
+  of_report (Some (Print file)) report = absurd report
+  of_report (Some (Gen methods)) report = absurd report
+  of_report (Some (Work methods jobs)) report = reported (Some (Work methods jobs)) report.0.2.report.status
+  of_report (Some (Verify file solver jobs)) report =
+      let order = Some (Verify file solver jobs) in
+      let p = report.2.0 in
+      by_either (is_companion solver) (IsCompanionReport Lines p jobs solver spawners.companion output) (IsReport Lines p jobs solver spawners.handed output) _
+      (λ h. reported order h.report.status) (λ h. reported order h.status) report.2.2
+
+  of_due : (order : Option Order) → IsDue order files spawners output → IsStatusOf order files sink output.runs.items output.status
+  of_due order (inl text) = of_told order files sink output.runs.items output.status (vec_items output.bytes) text.0.told text.0.none
+  of_due order (inr report) = of_report order report
+
+status_told : (order : Option Order) (ends : Ends) (ended : Ended) → IsAnswer order ends ended → IsStatusOf order ends.files ends.sink ended.runs.items ended.status
+status_told order ends ended (inl nothing) = subst (λ x. IsStatusOf order ends.files ends.sink ended.runs.items x) (sym nothing.status) nothing.none
+status_told order ends ended (inr (output, due, puts)) =
+    let own = of_due ends.files ends.spawners ends.sink output order due in
+    let runs = subst (λ runs. IsStatusOf order ends.files ends.sink runs output.status) (sym puts.runs) own in
+    of_status order ends.files ends.sink ended.runs.items output.status ended.status runs puts.status
 
 of_usage : (sink : Change Taken) (due s : Status) → due ≡ Usage → IsStatus due sink s → (s ≡ Usage) ⊎ (s ≡ Unwritten) ⊎ (s ≡ Want)
 of_usage sink due s is (inl e) = inl (e.0 ∙ is)
 of_usage sink due s is (inr failed) = inr (inl failed.0)
 
-usage_by : (files : Change Texts) (companion handed : Change Children) (sink : Change Taken) (ended : Ended) → IsAnswer None files companion handed sink ended
-    → (ended.status ≡ Usage) ⊎ (ended.status ≡ Unwritten) ⊎ (ended.status ≡ Want)
-usage_by files companion handed sink ended (inl nothing) = inr (inr nothing.status)
-usage_by files companion handed sink ended (inr (inl alone)) = of_usage sink alone.told.0 ended.status alone.told.2.0 alone.told.3.status
-usage_by files companion handed sink ended (inr (inr report)) = absurd report
+usage_by : (ends : Ends) (ended : Ended) → IsAnswer None ends ended → (ended.status ≡ Usage) ⊎ (ended.status ≡ Unwritten) ⊎ (ended.status ≡ Want)
+usage_by ends ended (inl nothing) = inr (inr nothing.status)
+usage_by ends ended (inr (output, inl text, puts)) = of_usage ends.sink output.status ended.status text.0.told.0 puts.status
+usage_by ends ended (inr (output, inr report, puts)) = absurd report
 
 -- where the words mean nothing
-pub usage_told : (order : Option Order) (files : Change Texts) (companion handed : Change Children) (sink : Change Taken) (ended : Ended)
-    → IsAnswer order files companion handed sink ended → order ≡ None → (ended.status ≡ Usage) ⊎ (ended.status ≡ Unwritten) ⊎ (ended.status ≡ Want)
-usage_told None files companion handed sink ended h e = usage_by files companion handed sink ended h
-usage_told (Some order) files companion handed sink ended h e = cc
+usage_told : (order : Option Order) (ends : Ends) (ended : Ended) → IsAnswer order ends ended → order ≡ None → (ended.status ≡ Usage) ⊎ (ended.status ≡ Unwritten) ⊎ (ended.status ≡ Want)
+usage_told None ends ended h e = usage_by ends ended h
+usage_told (Some order) ends ended h e = cc
+
+-- all that is promised, of what is to be put and how it is
+pub promised : (order : Option Order) (ends : Ends) (ended : Ended) (result : Result Output AllocError) → Obeys order ends.files ends.spawners result → IsAnswer order ends ended
+    → Promise order ends ended
+promised order ends ended result obeys answer = record {
+  answered = answer;
+  asked = obeys.asked;
+  starts = obeys.starts;
+  status = status_told order ends ended answer;
+  usage = usage_told order ends ended answer;
+  back = obeys.back;
+}

@@ -1,3 +1,6 @@
 pub mod Outside
 pub mod Refusals
-pub mod Reported
+pub mod Texts
+pub mod Reports
+pub mod Promised
+pub mod Steps

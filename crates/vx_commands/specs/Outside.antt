@@ -1,5 +1,5 @@
 -- What the outside shows before a call and after it: files, a sink, and the spawners of children.
-use Rattle.std.specs.Prelude.{◌≡◌, ◌⊎◌, ℕ, ◌<◌, ◌==◌, ◌-◌, ◌^◌, IsTrue, Bool, true, List, [], ◌∷◌, ◌++◌, map, Option, IfSome, length}
+use Rattle.std.specs.Prelude.{◌≡◌, ◌⊎◌, ⊤, ℕ, ◌<◌, ◌==◌, ◌-◌, ◌^◌, IsTrue, Bool, true, List, [], ◌∷◌, ◌++◌, map, Option, IfSome, length}
 use Rattle.std.specs.List.{count_by}
 use Rattle.vx_ends.specs.Causes.{Rose}
 use Rattle.vx_ends.specs.declared.piece.Start.{Start}
@@ -7,6 +7,7 @@ use Rattle.vx_ends.specs.declared.piece.Ending.{Ending}
 use Rattle.cs_answer.specs.declared.answer.Cause.{Cause}
 use Rattle.vx_companion.specs.declared.builtin.Builtin.{Builtin}
 use Rattle.vx_verifier.specs.Causes.{NoCountRose}
+use Rattle.vx_verifier.specs.Dealt.{Starts}
 
 pub record Change (A : Type 0) : Type 0 where
   pub before : A
@@ -79,7 +80,30 @@ pub record HandsBack (spawner : Change Children) : Type 0 where
   pub calm : IsTrue spawner.before.steady → spawner.before.faults < 2 ^ 64 - 1
       → NoCountRose spawner.before.ended spawner.after.ended spawner.before.faults spawner.after.faults
 
--- at most one start, by this command
-abbrev pub StartsOnly : (command : List (List ℕ)) → Change Children → Type 0
-StartsOnly command spawner =
-    (spawner.after.starts ≡ spawner.before.starts) ⊎ (spawner.after.starts ≡ spawner.before.starts ++ record { lane = 0; command = command } ∷ [])
+-- at most one start in each of so many lanes, and none in another, by this command
+abbrev pub StartsOnly : (jobs : ℕ) → (command : List (List ℕ)) → Change Children → Type 0
+StartsOnly jobs command spawner = Starts jobs command spawner.before.starts spawner.after.starts (λ lane started. ⊤)
+
+-- what both spawners show: that of the companion in process, and the one that is handed in
+pub record Spawners : Type 0 where
+  pub companion : Change Children
+  pub handed : Change Children
+
+abbrev pub spawners : {S : Type 0} → (shows : S → Children) → (companion_old companion_new : Builtin) → (old new : S) → Spawners
+spawners shows companion_old companion_new old new = record { companion = change companions companion_old companion_new; handed = change shows old new }
+
+-- neither is asked for anything
+pub record Rest (s : Spawners) : Type 0 where
+  pub companion : IsUnchanged s.companion
+  pub handed : IsUnchanged s.handed
+
+-- both have all links back
+pub record HandBack (s : Spawners) : Type 0 where
+  pub companion : HandsBack s.companion
+  pub handed : HandsBack s.handed
+
+-- what all ends show
+pub record Ends : Type 0 where
+  pub files : Change Texts
+  pub sink : Change Taken
+  pub spawners : Spawners

@@ -1,20 +1,22 @@
 //! The work of the companion: generated methods, which it verifies.
 
-ghost use Rattle.std.specs.Prelude.{◌≡◌, ◌≤◌, IfOk, IfErr, true, string_bytes};
+ghost use Rattle.std.specs.Prelude.{◌≡◌, ◌≤◌, IfOk, string_bytes};
 ghost use Rattle.vx_ast.specs.Written.{written_program};
 ghost use Rattle.vx_typing.specs.Typed.{written_of};
 ghost use Rattle.vx_gen.specs.Generated.{generated};
 ghost use Rattle.vx_gen.specs.Programs as gen;
-ghost use Rattle.vx_commands.specs.Outside.{change, taken, companions, HandsBack, StartsOnly};
-ghost use Rattle.vx_commands.specs.Reported.{IsWork, companion_alone};
+ghost use Rattle.vx_words.specs.Orders.{IsLanes};
+ghost use Rattle.vx_commands.specs.Outside.{change, companions};
+ghost use Rattle.vx_commands.specs.Reports.{IsWork, companion_alone};
+ghost use Rattle.vx_commands.specs.Steps.{Asks};
 
+use crate::output::Output;
 use crate::reading::{Parsed, read};
 use crate::reports::{Telling, report_by_companion};
-use crate::top::Ended;
 use std::alloc::{AllocError, Global};
 use vx_ast::Program;
 use vx_companion::Builtin;
-use vx_ends::{Parts, Sink};
+use vx_ends::Parts;
 use vx_gen::{GenFault, generate, generated_is_typed};
 use vx_typing::{TypeFault, Typed, check, programs_are_told};
 use vx_verifier::typed_programs_are_whole;
@@ -69,45 +71,37 @@ fn companion(alloc: Global) -> Result<Parts, AllocError>
 }
 
 // Verifies the typed program of so many generated methods by the companion.
-fn work_on<K: Sink>(
+fn work_on(
     alloc: Global,
     methods: u32,
+    jobs: u32,
     typed: &Typed,
-    out: &mut K,
     builtin: &mut Builtin,
-) -> Result<Ended, AllocError>
+) -> Result<Output, AllocError>
     requires few { methods ≤ 2000 }
+    requires lanes { IsLanes jobs }
     requires program { written_of typed.now ≡ gen.program_of methods }
-    ensures report { IfOk result (IsWork methods
-        (change companions builtin.old builtin.new)
-        (change (taken K.taken K.faults) out.old out.new)) }
-    ensures starts { StartsOnly companion_alone (change companions builtin.old builtin.new) }
-    ensures nothing { IfErr result (λ _. K.taken out.new ≡ K.taken out.old) }
-    ensures companion_back { HandsBack (change companions builtin.old builtin.new) }
+    ensures { let shown = change companions builtin.old builtin.new in Asks companion_alone jobs (IsWork methods jobs shown) shown result }
 {
     generated_is_typed();
     typed_programs_are_whole(typed);
     let solver = companion(alloc)?;
-    report_by_companion(alloc, Telling::Totals, typed, &solver, out, builtin)
+    report_by_companion(alloc, Telling::Totals, typed, jobs, &solver, builtin)
 }
 
-/// Verifies so many generated methods by the companion, and puts the line of the totals.
-pub fn work<K: Sink>(
+/// Verifies so many generated methods by the companion in so many lanes, and reports the line of the totals.
+pub fn work(
     alloc: Global,
     methods: u32,
-    out: &mut K,
+    jobs: u32,
     builtin: &mut Builtin,
-) -> Result<Ended, AllocError>
-    requires { methods ≤ 2000 }
-    ensures report { IfOk result (IsWork methods
-        (change companions builtin.old builtin.new)
-        (change (taken K.taken K.faults) out.old out.new)) }
-    ensures starts { StartsOnly companion_alone (change companions builtin.old builtin.new) }
-    ensures nothing { IfErr result (λ _. K.taken out.new ≡ K.taken out.old) }
-    ensures companion_back { HandsBack (change companions builtin.old builtin.new) }
+) -> Result<Output, AllocError>
+    requires few { methods ≤ 2000 }
+    requires lanes { IsLanes jobs }
+    ensures { let shown = change companions builtin.old builtin.new in Asks companion_alone jobs (IsWork methods jobs shown) shown result }
 {
     let text = text_of(alloc, methods)?;
     let program = program_of(alloc, methods, &text)?;
     let typed = typed_of(alloc, methods, &program)?;
-    work_on(alloc, methods, &typed, out, builtin)
+    work_on(alloc, methods, jobs, &typed, builtin)
 }

@@ -3,10 +3,12 @@
 
 mod answers;
 mod generated;
+mod output;
 mod reading;
 mod reports;
 mod saying;
 mod top;
 
+pub use output::Ended;
 pub use reports::Telling;
-pub use top::{Ended, run};
+pub use top::run;

@@ -3,7 +3,7 @@
 ghost use Rattle.std.specs.Prelude.{◌≡◌, IfOk, option_copied};
 ghost use Rattle.vx_ast.specs.Written.{written_program};
 ghost use Rattle.vx_commands.specs.Outside.{change, texts, AsksOnly};
-ghost use Rattle.vx_commands.specs.Reported.{IsLoadedFrom, IsParsedFrom, IsCheckedFrom};
+ghost use Rattle.vx_commands.specs.Steps.{IsLoadedFrom, IsParsedFrom, IsCheckedFrom};
 
 use crate::answers::{text_refusal, type_refusal};
 use std::alloc::{AllocError, Global};

@@ -1,22 +1,24 @@
-//! Reports: what the runs of a program's members say, and how it is put.
+//! Reports: what the runs of a program's members say.
 
-ghost use Rattle.std.specs.Prelude.{◌≡◌, ◌++◌, [], IfOk, IfErr, OnOk, string_bytes};
+ghost use Rattle.std.specs.Prelude.{◌≡◌, ◌++◌, OnOk, string_bytes};
 ghost use Rattle.vx_report.specs.Reports.{AreNamed, RestWithin};
 ghost use Rattle.vx_resolved.specs.Settled.{settled};
 ghost use Rattle.vx_typing.specs.Typed.{resolved_of};
 ghost use Rattle.vx_readable.specs.Numerals.{HasSmallNumerals};
-ghost use Rattle.vx_commands.specs.Reported as spec;
-ghost use Rattle.vx_commands.specs.Outside.{change, taken, children, companions, HandsBack, StartsOnly};
-ghost use Rattle.vx_commands.specs.Reported.{IsPut, IsStatus, IsSaid, IsReport, IsCompanionReport, IsReportBy, StartsBy};
+ghost use Rattle.vx_words.specs.Orders.{IsLanes};
+ghost use Rattle.vx_commands.specs.Reports as spec;
+ghost use Rattle.vx_commands.specs.Outside.{change, children, companions, spawners};
+ghost use Rattle.vx_commands.specs.Reports.{IsReport, IsCompanionReport, IsReportBy};
+ghost use Rattle.vx_commands.specs.Steps.{Asks, AsksEither};
 
-use crate::top::Ended;
+use crate::output::Output;
 use std::alloc::{AllocError, Global};
 use vx_companion::Builtin;
-use vx_ends::{Parts, PutFault, RoundRobin, Sink, Spawner, put_all};
-use vx_report::{MemberRun, Status, status_of, write_report, write_total};
+use vx_ends::{Parts, RoundRobin, Spawner};
+use vx_report::{MemberRun, status_of, write_report, write_total};
 use vx_resolved::Settled;
 use vx_typing::Typed;
-use vx_verifier::{Runs, Verification, verify};
+use vx_verifier::{Verification, verify};
 
 /// What a report tells of the runs.
 #[derive(Clone, Copy)]
@@ -25,28 +27,6 @@ pub enum Telling {
     Lines,
     /// The totals alone.
     Totals,
-}
-
-/// Puts these bytes; where the sink fails, that is the status.
-pub fn put<K: Sink>(out: &mut K, bytes: &[u8], status: Status, runs: Runs) -> Ended
-    ensures runs { result.runs ≡ runs }
-    ensures taken { IsPut (change (taken K.taken K.faults) out.old out.new) result.status bytes.now }
-    ensures status { IsStatus status (change (taken K.taken K.faults) out.old out.new) result.status }
-{
-    match put_all(out, bytes) {
-        Ok(()) => Ended { status, runs },
-        Err(PutFault::Failed) => Ended {
-            status: Status::Unwritten,
-            runs,
-        },
-    }
-}
-
-/// An end without a report.
-pub fn say<K: Sink>(alloc: Global, out: &mut K, bytes: &[u8], status: Status) -> Ended
-    ensures { IsSaid status bytes.now (change (taken K.taken K.faults) out.old out.new) result }
-{
-    put(out, bytes, status, Vec::new(alloc))
 }
 
 // Writes what is told of the runs.
@@ -66,30 +46,31 @@ fn write(
     }
 }
 
-// Verifies a program, and puts the report.
-fn report<K: Sink, W: Spawner>(
+// Verifies a program in so many lanes, and reports it.
+fn report<W: Spawner>(
     alloc: Global,
     telling: Telling,
     typed: &Typed,
-    out: &mut K,
+    jobs: u32,
     solver: &Parts,
     spawner: &mut W,
-) -> Result<Ended, AllocError>
-    ensures report { IfOk result (IsReport telling (resolved_of typed.now) solver.now
-        (change (children W.starts W.owed W.ended W.faults W.steady) spawner.old spawner.new)
-        (change (taken K.taken K.faults) out.old out.new)) }
-    ensures starts { StartsOnly solver.now (change (children W.starts W.owed W.ended W.faults W.steady) spawner.old spawner.new) }
-    ensures nothing { IfErr result (λ _. K.taken out.new ≡ K.taken out.old) }
-    ensures children_back { HandsBack (change (children W.starts W.owed W.ended W.faults W.steady) spawner.old spawner.new) }
+) -> Result<Output, AllocError>
+    requires { IsLanes jobs }
+    ensures { let shown = change (children W.starts W.owed W.ended W.faults W.steady) spawner.old spawner.new in
+        Asks solver.now jobs (IsReport telling (resolved_of typed.now) jobs solver.now shown) shown result }
 {
     let mut turns = RoundRobin::new();
     let Verification { program, runs } = verify(
-        alloc, typed, 1, solver, false, spawner, &mut turns,
+        alloc, typed, jobs, solver, false, spawner, &mut turns,
     )?;
     let mut text = String::new(alloc);
     write(telling, &mut text, &program, &runs)?;
     let status = status_of(&runs);
-    Ok(put(out, text.as_bytes(), status, runs))
+    Ok(Output {
+        bytes: text.into_bytes(),
+        status,
+        runs,
+    })
 }
 
 /// The companion is asked, and no child process.
@@ -99,50 +80,40 @@ pub fn is_companion(solver: &Parts) -> bool
     solver.len() == 1 && solver.part(0) == "builtin"
 }
 
-/// Verifies a program by the companion, and puts the report. No member is faulted, unless an assertion is too deep.
-pub fn report_by_companion<K: Sink>(
+/// Verifies a program by the companion in so many lanes, and reports it. No member is faulted, unless an assertion is too deep.
+pub fn report_by_companion(
     alloc: Global,
     telling: Telling,
     typed: &Typed,
+    jobs: u32,
     solver: &Parts,
-    out: &mut K,
     builtin: &mut Builtin,
-) -> Result<Ended, AllocError>
-    requires { HasSmallNumerals (resolved_of typed.now) }
-    ensures report { IfOk result (IsCompanionReport telling (resolved_of typed.now) solver.now
-        (change companions builtin.old builtin.new)
-        (change (taken K.taken K.faults) out.old out.new)) }
-    ensures starts { StartsOnly solver.now (change companions builtin.old builtin.new) }
-    ensures nothing { IfErr result (λ _. K.taken out.new ≡ K.taken out.old) }
-    ensures companion_back { HandsBack (change companions builtin.old builtin.new) }
+) -> Result<Output, AllocError>
+    requires small { HasSmallNumerals (resolved_of typed.now) }
+    requires lanes { IsLanes jobs }
+    ensures { let shown = change companions builtin.old builtin.new in
+        Asks solver.now jobs (IsCompanionReport telling (resolved_of typed.now) jobs solver.now shown) shown result }
 {
-    report(alloc, telling, typed, out, solver, builtin)
+    report(alloc, telling, typed, jobs, solver, builtin)
 }
 
-/// Verifies a program by the companion, or by the spawner, as the solver says, and puts the report.
-pub fn report_by<K: Sink, W: Spawner>(
+/// Verifies a program by the companion, or by the spawner, as the solver says, and reports it.
+pub fn report_by<W: Spawner>(
     alloc: Global,
     typed: &Typed,
+    jobs: u32,
     solver: &Parts,
-    out: &mut K,
     spawner: &mut W,
     builtin: &mut Builtin,
-) -> Result<Ended, AllocError>
-    requires { HasSmallNumerals (resolved_of typed.now) }
-    ensures report { IfOk result (IsReportBy solver.now (resolved_of typed.now)
-        (change companions builtin.old builtin.new)
-        (change (children W.starts W.owed W.ended W.faults W.steady) spawner.old spawner.new)
-        (change (taken K.taken K.faults) out.old out.new)) }
-    ensures starts { StartsBy solver.now
-        (change companions builtin.old builtin.new)
-        (change (children W.starts W.owed W.ended W.faults W.steady) spawner.old spawner.new) }
-    ensures nothing { IfErr result (λ _. K.taken out.new ≡ K.taken out.old) }
-    ensures companion_back { HandsBack (change companions builtin.old builtin.new) }
-    ensures children_back { HandsBack (change (children W.starts W.owed W.ended W.faults W.steady) spawner.old spawner.new) }
+) -> Result<Output, AllocError>
+    requires small { HasSmallNumerals (resolved_of typed.now) }
+    requires lanes { IsLanes jobs }
+    ensures { let shown = spawners (children W.starts W.owed W.ended W.faults W.steady) builtin.old builtin.new spawner.old spawner.new in
+        AsksEither solver.now jobs (IsReportBy solver.now jobs (resolved_of typed.now) shown) shown result }
 {
     if is_companion(solver) {
-        report_by_companion(alloc, Telling::Lines, typed, solver, out, builtin)
+        report_by_companion(alloc, Telling::Lines, typed, jobs, solver, builtin)
     } else {
-        report(alloc, Telling::Lines, typed, out, solver, spawner)
+        report(alloc, Telling::Lines, typed, jobs, solver, spawner)
     }
 }

@@ -1,11 +1,14 @@
-//! The commands that have no report: what they put for a text.
+//! The commands that have no report: what they say of a text.
 
 ghost use Rattle.std.specs.Prelude.{IfOk};
-ghost use Rattle.vx_commands.specs.Reported.{SaysSo};
+ghost use Rattle.vx_commands.specs.Texts.{Says};
+ghost use Rattle.vx_commands.specs.Promised.{IsText};
 
+use crate::output::Output;
 use crate::reading::{Checked, Parsed, read, type_of};
 use std::alloc::{AllocError, Global};
 use vx_print::print;
+use vx_report::Status;
 
 /// What a command without a report says of a text.
 #[derive(Clone, Copy)]
@@ -16,17 +19,10 @@ pub enum Saying {
     Canonical,
 }
 
-/// What a command puts: its text, or the line of a refusal.
-#[derive(Drop)]
-pub enum Said {
-    Done(Vec<u8>),
-    Refused(String),
-}
-
 impl Saying {
     /// What is said of this text.
-    pub fn of(self, alloc: Global, text: &[u8]) -> Result<Said, AllocError>
-        ensures { IfOk result (SaysSo self text.now) }
+    pub fn of(self, alloc: Global, text: &[u8]) -> Result<Output, AllocError>
+        ensures { IfOk result (IsText (Says self text.now)) }
     {
         match self {
             Saying::Typed => checked(alloc, text),
@@ -36,28 +32,32 @@ impl Saying {
 }
 
 // `ok`, where the program that a text spells is typed.
-fn checked(alloc: Global, text: &[u8]) -> Result<Said, AllocError>
-    ensures { IfOk result (SaysSo Saying.Typed text.now) }
+fn checked(alloc: Global, text: &[u8]) -> Result<Output, AllocError>
+    ensures { IfOk result (IsText (Says Saying.Typed text.now)) }
 {
     let program = match read(alloc, text)? {
         Parsed::Program(program) => program,
-        Parsed::Refused(line) => return Ok(Said::Refused(line)),
+        Parsed::Refused(line) => return Ok(Output::line(alloc, line, Status::Refused)),
     };
     match type_of(alloc, &program)? {
         Checked::Typed(typed) => {
             typed.typed();
-            Ok(Said::Done(Vec::from_slice(alloc, b"ok\n")?))
+            let bytes = Vec::from_slice(alloc, b"ok\n")?;
+            Ok(Output::text(alloc, bytes, Status::Done))
         }
-        Checked::Refused(line) => Ok(Said::Refused(line)),
+        Checked::Refused(line) => Ok(Output::line(alloc, line, Status::Refused)),
     }
 }
 
 // The canonical text of the program that a text spells.
-fn canonical(alloc: Global, text: &[u8]) -> Result<Said, AllocError>
-    ensures { IfOk result (SaysSo Saying.Canonical text.now) }
+fn canonical(alloc: Global, text: &[u8]) -> Result<Output, AllocError>
+    ensures { IfOk result (IsText (Says Saying.Canonical text.now)) }
 {
     match read(alloc, text)? {
-        Parsed::Program(program) => Ok(Said::Done(print(alloc, &program)?)),
-        Parsed::Refused(line) => Ok(Said::Refused(line)),
+        Parsed::Program(program) => {
+            let bytes = print(alloc, &program)?;
+            Ok(Output::text(alloc, bytes, Status::Done))
+        }
+        Parsed::Refused(line) => Ok(Output::line(alloc, line, Status::Refused)),
     }
 }

@@ -1,40 +1,29 @@
 //! The top call: from the words of the command line to what is put, and the exit status.
 
-ghost use Rattle.std.specs.Prelude.{◌≡◌, ◌⊎◌, ◌≤◌, [], IfOk, IfErr, Some, None, true, option_copied};
+ghost use Rattle.std.specs.Prelude.{◌≡◌, ◌≤◌, [], IfOk, Some, option_copied};
 ghost use Rattle.vx_ast.specs.Written.{written_program};
 ghost use Rattle.vx_typing.specs.Typed.{written_of};
-ghost use Rattle.vx_words.specs.Orders.{order_of, IsWithinLimit};
+ghost use Rattle.vx_words.specs.Orders.{order_of, IsLanes, IsWithinLimit};
 ghost use Rattle.vx_commands.specs.Refusals.{IsSpelledBy};
-ghost use Rattle.vx_commands.specs.Reported as spec;
-ghost use Rattle.vx_commands.specs.Outside.{change, texts, taken, children, companions, AsksOnly, HandsBack, StartsOnly};
-ghost use Rattle.vx_commands.specs.Reported.{Puts, IsToldOf, IsGenerated, IsVerified, IsAnswer, IsStatusOf, AsksFileOf, StartsBy, StartsSolverOf};
+ghost use Rattle.vx_commands.specs.Outside.{change, texts, taken, children, spawners, AsksOnly};
+ghost use Rattle.vx_commands.specs.Texts.{Says, IsToldOf, IsGenerated};
+ghost use Rattle.vx_commands.specs.Promised.{IsText, Promise};
+ghost use Rattle.vx_commands.specs.Steps.{AsksEither, IsVerified, Obeys};
 
 use crate::answers::{TOO_LONG, UNREAD, USAGE};
 use crate::generated::{text_of, work};
+use crate::output::{Ended, Output, put};
 use crate::reading::{Checked, Loaded, Parsed, load, read, type_of};
-use crate::reports::{report_by, say};
-use crate::saying::{Said, Saying};
+use crate::reports::report_by;
+use crate::saying::Saying;
 use std::alloc::{AllocError, Global};
 use vx_ast::Program;
 use vx_companion::Builtin;
 use vx_ends::{Files, Parts, Sink, Spawner};
 use vx_report::Status;
 use vx_typing::Typed;
-use vx_verifier::{Runs, typed_programs_are_whole};
+use vx_verifier::typed_programs_are_whole;
 use vx_words::{Order, Text, WordsFault, read_words};
-
-/// How the program ended: its status, and what became of each member with a line, in file order. There are no runs
-/// with the statuses of refused words and texts and of want of memory.
-pub struct Ended {
-    pub status: Status,
-    pub runs: Runs,
-}
-
-impl Drop for Ended {
-    fn drop(self) {
-        let Self { status, runs } = self;
-    }
-}
 
 // The name of a file, or none.
 fn name_of(file: &Option<Text>) -> Option<&str>
@@ -43,184 +32,161 @@ fn name_of(file: &Option<Text>) -> Option<&str>
     file.as_ref().map(|name| name.as_str())
 }
 
+// One of the lines that tell why there is no text.
+fn said(alloc: Global, line: &str, status: Status) -> Result<Output, AllocError>
+    ensures { IfOk result (IsText (λ s bytes. (s ≡ status) × (bytes ≡ line.now))) }
+{
+    let bytes = Vec::from_slice(alloc, line.as_bytes())?;
+    Ok(Output::text(alloc, bytes, status))
+}
+
 // Verifies a typed program of a text.
-fn verify_typed<K: Sink, W: Spawner>(
+fn verify_typed<W: Spawner>(
     alloc: Global,
     text: &[u8],
     typed: &Typed,
     solver: &Parts,
-    out: &mut K,
+    jobs: u32,
     spawner: &mut W,
     builtin: &mut Builtin,
-) -> Result<Ended, AllocError>
-    requires { IsSpelledBy text.now (written_of typed.now) }
-    ensures verified { IfOk result (IsVerified text.now solver.now
-        (change companions builtin.old builtin.new)
-        (change (children W.starts W.owed W.ended W.faults W.steady) spawner.old spawner.new)
-        (change (taken K.taken K.faults) out.old out.new)) }
-    ensures starts { StartsBy solver.now
-        (change companions builtin.old builtin.new)
-        (change (children W.starts W.owed W.ended W.faults W.steady) spawner.old spawner.new) }
-    ensures nothing { IfErr result (λ _. K.taken out.new ≡ K.taken out.old) }
-    ensures companion_back { HandsBack (change companions builtin.old builtin.new) }
-    ensures children_back { HandsBack (change (children W.starts W.owed W.ended W.faults W.steady) spawner.old spawner.new) }
+) -> Result<Output, AllocError>
+    requires spelled { IsSpelledBy text.now (written_of typed.now) }
+    requires lanes { IsLanes jobs }
+    ensures { let shown = spawners (children W.starts W.owed W.ended W.faults W.steady) builtin.old builtin.new spawner.old spawner.new in
+        AsksEither solver.now jobs (IsVerified text.now solver.now jobs shown) shown result }
 {
     typed.typed();
     typed_programs_are_whole(typed);
-    report_by(alloc, typed, solver, out, spawner, builtin)
+    report_by(alloc, typed, jobs, solver, spawner, builtin)
 }
 
 // Verifies the program of a text, if it is typed.
-fn verify_program<K: Sink, W: Spawner>(
+fn verify_program<W: Spawner>(
     alloc: Global,
     text: &[u8],
     program: &Program,
     solver: &Parts,
-    out: &mut K,
+    jobs: u32,
     spawner: &mut W,
     builtin: &mut Builtin,
-) -> Result<Ended, AllocError>
-    requires { IsSpelledBy text.now (written_program program.now) }
-    ensures verified { IfOk result (IsVerified text.now solver.now
-        (change companions builtin.old builtin.new)
-        (change (children W.starts W.owed W.ended W.faults W.steady) spawner.old spawner.new)
-        (change (taken K.taken K.faults) out.old out.new)) }
-    ensures starts { StartsBy solver.now
-        (change companions builtin.old builtin.new)
-        (change (children W.starts W.owed W.ended W.faults W.steady) spawner.old spawner.new) }
-    ensures nothing { IfErr result (λ _. K.taken out.new ≡ K.taken out.old) }
-    ensures companion_back { HandsBack (change companions builtin.old builtin.new) }
-    ensures children_back { HandsBack (change (children W.starts W.owed W.ended W.faults W.steady) spawner.old spawner.new) }
+) -> Result<Output, AllocError>
+    requires spelled { IsSpelledBy text.now (written_program program.now) }
+    requires lanes { IsLanes jobs }
+    ensures { let shown = spawners (children W.starts W.owed W.ended W.faults W.steady) builtin.old builtin.new spawner.old spawner.new in
+        AsksEither solver.now jobs (IsVerified text.now solver.now jobs shown) shown result }
 {
     match type_of(alloc, program)? {
-        Checked::Typed(typed) => verify_typed(alloc, text, &typed, solver, out, spawner, builtin),
-        Checked::Refused(line) => Ok(say(alloc, out, line.as_bytes(), Status::Refused)),
+        Checked::Typed(typed) => verify_typed(alloc, text, &typed, solver, jobs, spawner, builtin),
+        Checked::Refused(line) => Ok(Output::line(alloc, line, Status::Refused)),
     }
 }
 
 // Verifies the program of a text, if there is one.
-fn verify_text<K: Sink, W: Spawner>(
+fn verify_text<W: Spawner>(
     alloc: Global,
     text: &[u8],
     solver: &Parts,
-    out: &mut K,
+    jobs: u32,
     spawner: &mut W,
     builtin: &mut Builtin,
-) -> Result<Ended, AllocError>
-    ensures verified { IfOk result (IsVerified text.now solver.now
-        (change companions builtin.old builtin.new)
-        (change (children W.starts W.owed W.ended W.faults W.steady) spawner.old spawner.new)
-        (change (taken K.taken K.faults) out.old out.new)) }
-    ensures starts { StartsBy solver.now
-        (change companions builtin.old builtin.new)
-        (change (children W.starts W.owed W.ended W.faults W.steady) spawner.old spawner.new) }
-    ensures nothing { IfErr result (λ _. K.taken out.new ≡ K.taken out.old) }
-    ensures companion_back { HandsBack (change companions builtin.old builtin.new) }
-    ensures children_back { HandsBack (change (children W.starts W.owed W.ended W.faults W.steady) spawner.old spawner.new) }
+) -> Result<Output, AllocError>
+    requires { IsLanes jobs }
+    ensures { let shown = spawners (children W.starts W.owed W.ended W.faults W.steady) builtin.old builtin.new spawner.old spawner.new in
+        AsksEither solver.now jobs (IsVerified text.now solver.now jobs shown) shown result }
 {
     match read(alloc, text)? {
         Parsed::Program(program) => {
-            verify_program(alloc, text, &program, solver, out, spawner, builtin)
+            verify_program(alloc, text, &program, solver, jobs, spawner, builtin)
         }
-        Parsed::Refused(line) => Ok(say(alloc, out, line.as_bytes(), Status::Refused)),
+        Parsed::Refused(line) => Ok(Output::line(alloc, line, Status::Refused)),
     }
 }
 
 // Verifies a file, or standard input.
-fn verify_file<F: Files, K: Sink, W: Spawner>(
+fn verify_file<F: Files, W: Spawner>(
     alloc: Global,
     file: &Option<Text>,
     solver: &Parts,
+    jobs: u32,
     files: &mut F,
-    out: &mut K,
     spawner: &mut W,
     builtin: &mut Builtin,
-) -> Result<Ended, AllocError>
-    ensures answered { IfOk result (IsAnswer (Some (Order.Verify file.now solver.now))
-        (change (texts F.holds F.asked F.faults) files.old files.new)
-        (change companions builtin.old builtin.new)
-        (change (children W.starts W.owed W.ended W.faults W.steady) spawner.old spawner.new)
-        (change (taken K.taken K.faults) out.old out.new)) }
-    ensures asked { AsksOnly file.now (change (texts F.holds F.asked F.faults) files.old files.new) }
-    ensures starts { StartsBy solver.now
-        (change companions builtin.old builtin.new)
-        (change (children W.starts W.owed W.ended W.faults W.steady) spawner.old spawner.new) }
-    ensures nothing { IfErr result (λ _. K.taken out.new ≡ K.taken out.old) }
-    ensures companion_back { HandsBack (change companions builtin.old builtin.new) }
-    ensures children_back { HandsBack (change (children W.starts W.owed W.ended W.faults W.steady) spawner.old spawner.new) }
+) -> Result<Output, AllocError>
+    requires { IsLanes jobs }
+    ensures { Obeys (Some (Order.Verify file.now solver.now jobs)) (change (texts F.holds F.asked F.faults) files.old files.new)
+        (spawners (children W.starts W.owed W.ended W.faults W.steady) builtin.old builtin.new spawner.old spawner.new) result }
 {
     match load(alloc, files, name_of(file))? {
-        Loaded::Text(text) => verify_text(alloc, &text, solver, out, spawner, builtin),
-        Loaded::Unread => Ok(say(alloc, out, UNREAD.as_bytes(), Status::Unread)),
-        Loaded::TooLong => Ok(say(alloc, out, TOO_LONG.as_bytes(), Status::Unread)),
+        Loaded::Text(text) => verify_text(alloc, &text, solver, jobs, spawner, builtin),
+        Loaded::Unread => said(alloc, UNREAD, Status::Unread),
+        Loaded::TooLong => said(alloc, TOO_LONG, Status::Unread),
     }
 }
 
 // What a command without a report says of a file, or of standard input.
-fn say_file<F: Files, K: Sink>(
+fn say_file<F: Files>(
     alloc: Global,
     saying: Saying,
     file: &Option<Text>,
     files: &mut F,
-    out: &mut K,
-) -> Result<Ended, AllocError>
-    ensures said { IfOk result (Puts (IsToldOf (spec.Says saying) file.now
-        (change (texts F.holds F.asked F.faults) files.old files.new))
-        (change (taken K.taken K.faults) out.old out.new)) }
+) -> Result<Output, AllocError>
+    ensures said { IfOk result (IsText (IsToldOf (Says saying) file.now (change (texts F.holds F.asked F.faults) files.old files.new))) }
     ensures asked { AsksOnly file.now (change (texts F.holds F.asked F.faults) files.old files.new) }
-    ensures nothing { IfErr result (λ _. K.taken out.new ≡ K.taken out.old) }
 {
     match load(alloc, files, name_of(file))? {
-        Loaded::Text(text) => match saying.of(alloc, &text)? {
-            Said::Done(bytes) => Ok(say(alloc, out, &bytes, Status::Done)),
-            Said::Refused(line) => Ok(say(alloc, out, line.as_bytes(), Status::Refused)),
-        },
-        Loaded::Unread => Ok(say(alloc, out, UNREAD.as_bytes(), Status::Unread)),
-        Loaded::TooLong => Ok(say(alloc, out, TOO_LONG.as_bytes(), Status::Unread)),
+        Loaded::Text(text) => saying.of(alloc, &text),
+        Loaded::Unread => said(alloc, UNREAD, Status::Unread),
+        Loaded::TooLong => said(alloc, TOO_LONG, Status::Unread),
     }
 }
 
-// Puts the text of so many generated methods.
-fn put_generated<K: Sink>(alloc: Global, methods: u32, out: &mut K) -> Result<Ended, AllocError>
+// The text of so many generated methods.
+fn generated(alloc: Global, methods: u32) -> Result<Output, AllocError>
     requires { methods ≤ 2000 }
-    ensures said { IfOk result (Puts (IsGenerated methods) (change (taken K.taken K.faults) out.old out.new)) }
-    ensures nothing { IfErr result (λ _. K.taken out.new ≡ K.taken out.old) }
+    ensures { IfOk result (IsText (IsGenerated methods)) }
 {
     let text = text_of(alloc, methods)?;
-    Ok(say(alloc, out, text.as_bytes(), Status::Done))
+    Ok(Output::line(alloc, text, Status::Done))
 }
 
-// Does what is ordered.
-fn obey<F: Files, K: Sink, W: Spawner>(
+// What is to be put for an order.
+fn obey<F: Files, W: Spawner>(
     alloc: Global,
     order: &Order,
     files: &mut F,
-    out: &mut K,
     spawner: &mut W,
     builtin: &mut Builtin,
-) -> Result<Ended, AllocError>
+) -> Result<Output, AllocError>
     requires { IsWithinLimit order.now }
-    ensures answered { IfOk result (IsAnswer (Some order.now)
-        (change (texts F.holds F.asked F.faults) files.old files.new)
-        (change companions builtin.old builtin.new)
-        (change (children W.starts W.owed W.ended W.faults W.steady) spawner.old spawner.new)
-        (change (taken K.taken K.faults) out.old out.new)) }
-    ensures asked { AsksFileOf (Some order.now) (change (texts F.holds F.asked F.faults) files.old files.new) }
-    ensures starts { StartsSolverOf (Some order.now)
-        (change companions builtin.old builtin.new)
-        (change (children W.starts W.owed W.ended W.faults W.steady) spawner.old spawner.new) }
-    ensures nothing { IfErr result (λ _. K.taken out.new ≡ K.taken out.old) }
-    ensures companion_back { HandsBack (change companions builtin.old builtin.new) }
-    ensures children_back { HandsBack (change (children W.starts W.owed W.ended W.faults W.steady) spawner.old spawner.new) }
+    ensures { Obeys (Some order.now) (change (texts F.holds F.asked F.faults) files.old files.new)
+        (spawners (children W.starts W.owed W.ended W.faults W.steady) builtin.old builtin.new spawner.old spawner.new) result }
 {
     match order {
-        Order::Verify { file, solver } => {
-            verify_file(alloc, file, solver, files, out, spawner, builtin)
+        Order::Verify { file, solver, jobs } => {
+            verify_file(alloc, file, solver, *jobs, files, spawner, builtin)
         }
-        Order::Check { file } => say_file(alloc, Saying::Typed, file, files, out),
-        Order::Print { file } => say_file(alloc, Saying::Canonical, file, files, out),
-        Order::Gen { methods } => put_generated(alloc, *methods, out),
-        Order::Work { methods } => work(alloc, *methods, out, builtin),
+        Order::Check { file } => say_file(alloc, Saying::Typed, file, files),
+        Order::Print { file } => say_file(alloc, Saying::Canonical, file, files),
+        Order::Gen { methods } => generated(alloc, *methods),
+        Order::Work { methods, jobs } => work(alloc, *methods, *jobs, builtin),
+    }
+}
+
+// What is to be put for the words.
+fn answer<F: Files, W: Spawner>(
+    alloc: Global,
+    words: &Parts,
+    files: &mut F,
+    spawner: &mut W,
+    builtin: &mut Builtin,
+) -> Result<Output, AllocError>
+    ensures { Obeys (order_of words.now) (change (texts F.holds F.asked F.faults) files.old files.new)
+        (spawners (children W.starts W.owed W.ended W.faults W.steady) builtin.old builtin.new spawner.old spawner.new) result }
+{
+    match read_words(alloc, words) {
+        Ok(order) => obey(alloc, &order, files, spawner, builtin),
+        Err(WordsFault::Usage) => said(alloc, USAGE, Status::Usage),
+        Err(WordsFault::Want) => Err(AllocError),
     }
 }
 
@@ -235,37 +201,6 @@ fn without_memory(alloc: Global) -> Ended
     }
 }
 
-// Does what the words say.
-fn answer<F: Files, K: Sink, W: Spawner>(
-    alloc: Global,
-    words: &Parts,
-    files: &mut F,
-    out: &mut K,
-    spawner: &mut W,
-    builtin: &mut Builtin,
-) -> Ended
-    ensures answered { IsAnswer (order_of words.now)
-        (change (texts F.holds F.asked F.faults) files.old files.new)
-        (change companions builtin.old builtin.new)
-        (change (children W.starts W.owed W.ended W.faults W.steady) spawner.old spawner.new)
-        (change (taken K.taken K.faults) out.old out.new) result }
-    ensures asked { AsksFileOf (order_of words.now) (change (texts F.holds F.asked F.faults) files.old files.new) }
-    ensures starts { StartsSolverOf (order_of words.now)
-        (change companions builtin.old builtin.new)
-        (change (children W.starts W.owed W.ended W.faults W.steady) spawner.old spawner.new) }
-    ensures companion_back { HandsBack (change companions builtin.old builtin.new) }
-    ensures children_back { HandsBack (change (children W.starts W.owed W.ended W.faults W.steady) spawner.old spawner.new) }
-{
-    match read_words(alloc, words) {
-        Ok(order) => match obey(alloc, &order, files, out, spawner, builtin) {
-            Ok(ended) => ended,
-            Err(AllocError) => without_memory(alloc),
-        },
-        Err(WordsFault::Usage) => say(alloc, out, USAGE.as_bytes(), Status::Usage),
-        Err(WordsFault::Want) => without_memory(alloc),
-    }
-}
-
 /// Does what the words say; the first is the program's name. All text goes to `out`, built whole before its first byte
 /// is put. Children are started by `spawner`, or, where the solver is `builtin` or none is named, by `builtin`.
 pub fn run<F: Files, K: Sink, W: Spawner>(
@@ -276,21 +211,14 @@ pub fn run<F: Files, K: Sink, W: Spawner>(
     spawner: &mut W,
     builtin: &mut Builtin,
 ) -> Ended
-    ensures answered { IsAnswer (order_of words.now)
-        (change (texts F.holds F.asked F.faults) files.old files.new)
-        (change companions builtin.old builtin.new)
-        (change (children W.starts W.owed W.ended W.faults W.steady) spawner.old spawner.new)
-        (change (taken K.taken K.faults) out.old out.new) result }
-    ensures asked { AsksFileOf (order_of words.now) (change (texts F.holds F.asked F.faults) files.old files.new) }
-    ensures starts { StartsSolverOf (order_of words.now)
-        (change companions builtin.old builtin.new)
-        (change (children W.starts W.owed W.ended W.faults W.steady) spawner.old spawner.new) }
-    ensures status { IsStatusOf (order_of words.now)
-        (change (texts F.holds F.asked F.faults) files.old files.new)
-        (change (taken K.taken K.faults) out.old out.new) result.runs.items result.status }
-    ensures usage { order_of words.now ≡ None → (result.status ≡ Status.Usage) ⊎ (result.status ≡ Status.Unwritten) ⊎ (result.status ≡ Status.Want) }
-    ensures companion_back { HandsBack (change companions builtin.old builtin.new) }
-    ensures children_back { HandsBack (change (children W.starts W.owed W.ended W.faults W.steady) spawner.old spawner.new) }
+    ensures { Promise (order_of words.now) (record {
+      files = change (texts F.holds F.asked F.faults) files.old files.new;
+      sink = change (taken K.taken K.faults) out.old out.new;
+      spawners = spawners (children W.starts W.owed W.ended W.faults W.steady) builtin.old builtin.new spawner.old spawner.new;
+    }) result }
 {
-    answer(alloc, words, files, out, spawner, builtin)
+    match answer(alloc, words, files, spawner, builtin) {
+        Ok(output) => put(out, output),
+        Err(AllocError) => without_memory(alloc),
+    }
 }

@@ -1,7 +1,7 @@
 use Rattle.std.proofs.Common.{◌∙◌, subst, sym}
 use Rattle.vx_parser.specs.Spelling.{Spells}
 use Rattle.vx_gen.specs.Programs as gen
-use Rattle.vx_commands.specs.Reported.{IsParsedFrom}
+use Rattle.vx_commands.specs.Steps.{IsParsedFrom}
 use Rattle.vx_commands.proofs.generated.program_of.Goals as goal
 
 pub unreachable-requires : goal.unreachable-requires

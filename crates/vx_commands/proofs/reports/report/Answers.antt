@@ -1,15 +1,20 @@
-use Rattle.std.proofs.Common.{rules, subst, sym}
-use Rattle.vx_typing.specs.Typed.{resolved_of}
-use Rattle.vx_verifier.specs.Headline.{Headline}
+use Rattle.std.proofs.Common.{rules}
 use Rattle.vx_commands.proofs.reports.report.Goals as goal
 
-pub returns-clause-report : goal.returns-clause-report
-returns-clause-report g c = record {
-  headline = subst (λ runs. Headline (resolved_of c.args.typed.now) (g.W.Spawner.ended c.args.spawner.now) (g.W.Spawner.ended c.verify.new.spawner) (g.W.Spawner.faults c.args.spawner.now) (g.W.Spawner.faults c.verify.new.spawner) runs.items) (sym c.put.ensures.runs) c.in_ok-program.ensures.headline;
-  put = search rules;
-  status = search rules;
-  started = c.in_ok-program.ensures.started;
+pub returns : goal.returns
+returns g c = record {
+  answered = record {
+    headline = c.in_ok-program.ensures.headline;
+    text = search rules;
+    status = search rules;
+    started = c.in_ok-program.ensures.started;
+  };
+  starts = c.verify.ensures.starts;
+  back = record { every_lane = c.verify.ensures.handed_back; calm = c.verify.ensures.steady };
 }
 
-pub returns-clause-children_back : goal.returns-clause-children_back
-returns-clause-children_back g c = record { every_lane = c.verify.ensures.handed_back; calm = c.verify.ensures.steady }
+pub returns-in_err-program : goal.returns-in_err-program
+returns-in_err-program g c = record { answered = search rules; starts = c.verify.ensures.starts; back = record { every_lane = c.verify.ensures.handed_back; calm = c.verify.ensures.steady } }
+
+pub returns-in_err-write : goal.returns-in_err-write
+returns-in_err-write g c = record { answered = search rules; starts = c.verify.ensures.starts; back = record { every_lane = c.verify.ensures.handed_back; calm = c.verify.ensures.steady } }

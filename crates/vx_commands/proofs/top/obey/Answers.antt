@@ -1,24 +1,33 @@
-use Rattle.std.proofs.Common.{refl}
-use Rattle.vx_commands.proofs.Untouched.{rests_back}
+use Rattle.std.proofs.Common.{inl, inr, refl}
+use Rattle.std.proofs.lemmas.Result.{IfOk-weaker}
+use Rattle.vx_commands.proofs.Untouched.{at_rest, obeyed_alone, untouched, rests_back, for_order}
 use Rattle.vx_commands.proofs.top.obey.Goals as goal
 
-pub returns-in-Check-clause-companion_back : goal.returns-in-Check-clause-companion_back
-returns-in-Check-clause-companion_back g c = rests_back _ refl
+pub returns-in-Verify : goal.returns-in-Verify
+returns-in-Verify g c = for_order _ _ _ _ _ c.in-Verify.is c.verify_file.ensures
 
-pub returns-in-Check-clause-children_back : goal.returns-in-Check-clause-children_back
-returns-in-Check-clause-children_back g c = rests_back _ refl
+pub returns-in-Check : goal.returns-in-Check
+returns-in-Check g c =
+    for_order _ _ _ _ _ c.in-Check.is
+    (obeyed_alone _ (at_rest _ _) _ _ c.say_file.result c.say_file.ensures.asked (IfOk-weaker c.say_file.result _ _ (λ output h. inl (h, at_rest _ _)) c.say_file.ensures.said))
 
-pub returns-in-Print-clause-companion_back : goal.returns-in-Print-clause-companion_back
-returns-in-Print-clause-companion_back g c = rests_back _ refl
+pub returns-in-Print : goal.returns-in-Print
+returns-in-Print g c =
+    for_order _ _ _ _ _ c.in-Print.is
+    (obeyed_alone _ (at_rest _ _) _ _ c.say_file-in-Print.result c.say_file-in-Print.ensures.asked
+    (IfOk-weaker c.say_file-in-Print.result _ _ (λ output h. inl (h, at_rest _ _)) c.say_file-in-Print.ensures.said))
 
-pub returns-in-Print-clause-children_back : goal.returns-in-Print-clause-children_back
-returns-in-Print-clause-children_back g c = rests_back _ refl
+pub returns-in-Gen : goal.returns-in-Gen
+returns-in-Gen g c =
+    for_order _ _ _ _ _ c.in-Gen.is
+    (untouched _ (at_rest _ _) _ _ c.generated.result refl (IfOk-weaker c.generated.result _ _ (λ output h. inl (h, at_rest _ _)) c.generated.ensures))
 
-pub returns-in-Gen-clause-companion_back : goal.returns-in-Gen-clause-companion_back
-returns-in-Gen-clause-companion_back g c = rests_back _ refl
-
-pub returns-in-Gen-clause-children_back : goal.returns-in-Gen-clause-children_back
-returns-in-Gen-clause-children_back g c = rests_back _ refl
-
-pub returns-in-Work-clause-children_back : goal.returns-in-Work-clause-children_back
-returns-in-Work-clause-children_back g c = rests_back _ refl
+pub returns-in-Work : goal.returns-in-Work
+returns-in-Work g c =
+    for_order _ _ _ _ _ c.in-Work.is
+    record {
+      due = IfOk-weaker c.work.result _ _ (λ output h. inr (h, refl)) c.work.ensures.answered;
+      asked = refl;
+      starts = (c.work.ensures.starts, refl);
+      back = record { companion = c.work.ensures.back; handed = rests_back _ refl };
+    }

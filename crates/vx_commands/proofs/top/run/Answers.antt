@@ -1,8 +1,10 @@
-use Rattle.vx_commands.proofs.Statuses.{status_told, usage_told}
+use Rattle.std.proofs.Common.{inl, inr, refl}
+use Rattle.vx_commands.proofs.Statuses.{promised}
 use Rattle.vx_commands.proofs.top.run.Goals as goal
 
-pub returns-clause-status : goal.returns-clause-status
-returns-clause-status g c = status_told _ _ _ _ _ _ c.answer.ensures.answered
+pub returns-in-Ok : goal.returns-in-Ok
+returns-in-Ok g c = promised _ _ c.put.result c.answer.result c.answer.ensures (inr (c.in-Ok.output, c.in-Ok.ensures.due, c.put.ensures))
 
-pub returns-clause-usage : goal.returns-clause-usage
-returns-clause-usage g c = usage_told _ _ _ _ _ _ c.answer.ensures.answered
+pub returns-in-Err : goal.returns-in-Err
+returns-in-Err g c =
+    promised _ _ c.without_memory.result c.answer.result c.answer.ensures (inl (record { status = c.without_memory.ensures.status; put = refl; none = c.without_memory.ensures.runs }))

@@ -1,15 +1,17 @@
-use Rattle.std.proofs.Common.{refl}
-use Rattle.vx_commands.proofs.Untouched.{rests_back}
+use Rattle.std.proofs.Common.{inl, subst, rules}
+use Rattle.vx_report.specs.declared.status.Status.TheVariants.{Refused}
+use Rattle.vx_commands.specs.Texts.{SaysRefused}
+use Rattle.vx_commands.specs.Steps.{IsParsedFrom}
+use Rattle.vx_commands.proofs.Due.{is_text}
+use Rattle.vx_commands.proofs.Untouched.{at_rest, neither_asked}
 use Rattle.vx_commands.proofs.top.verify_text.Goals as goal
 
-pub returns-in_err-program-clause-companion_back : goal.returns-in_err-program-clause-companion_back
-returns-in_err-program-clause-companion_back g c = rests_back _ refl
+pub returns-in_err-program : goal.returns-in_err-program
+returns-in_err-program g c = neither_asked _ (at_rest _ _) _ _ _ _ (search rules)
 
-pub returns-in_err-program-clause-children_back : goal.returns-in_err-program-clause-children_back
-returns-in_err-program-clause-children_back g c = rests_back _ refl
-
-pub returns-in-Refused-clause-companion_back : goal.returns-in-Refused-clause-companion_back
-returns-in-Refused-clause-companion_back g c = rests_back _ refl
-
-pub returns-in-Refused-clause-children_back : goal.returns-in-Refused-clause-children_back
-returns-in-Refused-clause-children_back g c = rests_back _ refl
+pub returns-in-Refused : goal.returns-in-Refused
+returns-in-Refused g c =
+    let refused = subst (IsParsedFrom c.args.text.now) c.in-Refused.is c.in_ok-program.ensures in
+    let line = c.line.ensures in
+    let text = is_text (SaysRefused c.args.text.now) c.line.result Refused _ line.status line.bytes line.none (inl refused) in
+    neither_asked _ (at_rest _ _) _ _ _ _ (inl (text, at_rest _ _))
