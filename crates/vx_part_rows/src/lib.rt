@@ -36,7 +36,14 @@ pub fn answer(alloc: Global, row: &Row, out: &mut Text) -> Result<(), AllocError
         Asks::Graph => put_graph(alloc, text_in(row), out)?,
         Asks::Fraction => put_fraction(text_in(row), out),
         Asks::Sexp => put_sexp(alloc, &row.text, out),
-        Asks::Run | Asks::Checks | Asks::Sent | Asks::File | Asks::Child | Asks::Companion => {
+        Asks::Run
+        | Asks::Checks
+        | Asks::Runs
+        | Asks::Turns
+        | Asks::Sent
+        | Asks::File
+        | Asks::Child
+        | Asks::Companion => {
             out.put("  this row asks for the whole program\n");
         }
     }

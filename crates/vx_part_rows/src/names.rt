@@ -21,6 +21,15 @@ fn put_parts(solver: &Parts, out: &mut Text) {
     }
 }
 
+// How many lanes there are, where there is more than one.
+fn put_jobs(jobs: u32, out: &mut Text) {
+    if jobs > 1 {
+        out.put(" in ");
+        out.natural(u128::from(jobs));
+        out.put(" lanes");
+    }
+}
+
 fn put_methods(word: &str, methods: u32, out: &mut Text) {
     out.put(word);
     out.put(" ");
@@ -29,15 +38,19 @@ fn put_methods(word: &str, methods: u32, out: &mut Text) {
 
 fn put_meaning(order: &Order, out: &mut Text) {
     match order {
-        Order::Verify { file, solver } => {
+        Order::Verify { file, solver, jobs } => {
             put_file("verify", file, out);
             out.put(" by");
             put_parts(solver, out);
+            put_jobs(*jobs, out);
         }
         Order::Check { file } => put_file("check", file, out),
         Order::Print { file } => put_file("print", file, out),
         Order::Gen { methods } => put_methods("gen", *methods, out),
-        Order::Work { methods } => put_methods("work", *methods, out),
+        Order::Work { methods, jobs } => {
+            put_methods("work", *methods, out);
+            put_jobs(*jobs, out);
+        }
     }
 }
 

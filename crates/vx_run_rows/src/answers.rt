@@ -1,19 +1,28 @@
 //! What a row is answered.
 
 use crate::ends::{put_child_answer, put_companion_answer, put_file};
+use crate::lanes::{put_runs, put_turns};
 use std::alloc::{AllocError, Global};
-use vx_commands::run;
+use vx_commands::{Ended, run};
 use vx_companion::Builtin;
 use vx_edge::ChildSpawner;
-use vx_ends::{Bytes, Ending, MemFiles, MemSink, NamedText, Piece, Script, ScriptSpawner, Spawner};
+use vx_ends::{Bytes, Ending, MemFiles, MemSink, NamedText, Piece, ScriptSpawner, Spawner};
 use vx_report::{Cause, MemberRun, Verdict};
 use vx_table::{Asks, Row, Solver, Text};
+
+// The name of the file that holds the text, or none, which is standard input.
+fn name_of(alloc: Global, row: &Row) -> Result<Option<Bytes>, AllocError> {
+    match row.file.texts().first() {
+        Some(name) => Ok(Some(Bytes::copy(alloc, name.as_bytes())?)),
+        None => Ok(None),
+    }
+}
 
 fn input(alloc: Global, row: &Row) -> Result<MemFiles, AllocError> {
     let mut texts = Vec::new(alloc);
     if row.has_input {
         texts.push(NamedText {
-            name: None,
+            name: name_of(alloc, row)?,
             text: Bytes::copy(alloc, &row.text)?,
         })?;
     }
@@ -21,15 +30,7 @@ fn input(alloc: Global, row: &Row) -> Result<MemFiles, AllocError> {
 }
 
 fn solver(alloc: Global, row: &Row) -> Result<ScriptSpawner, AllocError> {
-    let mut replies = Vec::new(alloc);
-    for reply in &row.replies {
-        replies.push(Bytes::copy(alloc, reply.as_slice())?)?;
-    }
-    let mut scripts = Vec::new(alloc);
-    scripts.push(Script {
-        replies,
-        fails: row.fails.clone()?,
-    })?;
+    let scripts = row.scripts(alloc)?;
     Ok(ScriptSpawner::new(alloc, scripts, Vec::new(alloc)))
 }
 
@@ -128,21 +129,26 @@ fn put_sent(alloc: Global, row: &Row, out: &mut Text) -> Result<(), AllocError> 
     Ok(())
 }
 
-// How many questions the members of the program have, of which each is asked of the companion.
-fn put_checks(alloc: Global, row: &Row, out: &mut Text) -> Result<(), AllocError> {
+// How the program ends for a row, by the row's solver or by the companion.
+fn ended_of(alloc: Global, row: &Row) -> Result<Ended, AllocError> {
     let words = row.command(alloc)?;
     let mut files = input(alloc, row)?;
     let mut sink = MemSink::new(alloc, row.room)?;
     let mut spawner = solver(alloc, row)?;
     let mut builtin = Builtin::new(alloc);
-    let ended = run(
+    Ok(run(
         alloc,
         &words,
         &mut files,
         &mut sink,
         &mut spawner,
         &mut builtin,
-    );
+    ))
+}
+
+// How many questions the members of the program have, of which each is asked of the companion.
+fn put_checks(alloc: Global, row: &Row, out: &mut Text) -> Result<(), AllocError> {
+    let ended = ended_of(alloc, row)?;
     let mut checks = 0u64;
     for member in &ended.runs {
         checks = checks.saturating_add(u64::from(member.checks));
@@ -168,6 +174,11 @@ pub fn answer(
     match row.asks {
         Asks::Run => put_run(rt, alloc, row, out),
         Asks::Checks => put_checks(alloc, row, out),
+        Asks::Runs => {
+            put_runs(&ended_of(alloc, row)?.runs, out);
+            Ok(())
+        }
+        Asks::Turns => put_turns(alloc, row, out),
         Asks::Sent => put_sent(alloc, row, out),
         Asks::File => put_file(rt, alloc, row, out),
         Asks::Child => put_child_answer(alloc, &mut ChildSpawner::new(alloc, rt), row, out),

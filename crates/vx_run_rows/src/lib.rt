@@ -5,5 +5,6 @@
 mod all;
 mod answers;
 mod ends;
+mod lanes;
 
 pub use all::answers_of;

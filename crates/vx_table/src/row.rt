@@ -1,7 +1,8 @@
 //! A row: what is asked, and of which text.
 
 use std::alloc::{AllocError, Global};
-use vx_ends::{Bytes, Parts};
+use std::mem;
+use vx_ends::{Bytes, Parts, Script};
 use vx_rules::Reply;
 
 /// What a row asks.
@@ -11,6 +12,10 @@ pub enum Asks {
     Run,
     /// How many questions the program asks.
     Checks,
+    /// In which lane each member is verified, which of the lane's checks are its own, and its verdict.
+    Runs,
+    /// The same where the row says whose turn it is, and how many lanes waited each time.
+    Turns,
     /// How the text is read.
     Parse,
     /// The lengths at which the beginning of the text is a program.
@@ -53,6 +58,18 @@ pub struct Step {
     pub reply: Reply,
 }
 
+// A script of its own with these replies and failing calls.
+fn copied(alloc: Global, replies: &[Bytes], fails: &[u64]) -> Result<Script, AllocError> {
+    let mut own = Vec::new(alloc);
+    for reply in replies {
+        own.push(Bytes::copy(alloc, reply.as_slice())?)?;
+    }
+    Ok(Script {
+        replies: own,
+        fails: fails.to_vec(alloc)?,
+    })
+}
+
 /// A row of the table.
 #[derive(Drop)]
 pub struct Row {
@@ -60,15 +77,19 @@ pub struct Row {
     /// The words of the command line behind the program's name; there may be no name.
     pub words: Parts,
     pub has_name: bool,
-    /// What standard input holds; a row may have none.
+    /// What standard input holds, or a file, if it is named; a row may have none.
     pub text: Vec<u8>,
     pub has_input: bool,
+    pub file: Parts,
     /// How many bytes standard output takes.
     pub room: usize,
-    /// Who answers; the replies of the script's one child, and the numbers of its calls that fail.
+    /// Who answers; the replies of the script's last child, and the numbers of its calls that fail; and so of those before it.
     pub solver: Solver,
     pub replies: Vec<Bytes>,
     pub fails: Vec<u64>,
+    pub earlier: Vec<Script>,
+    /// Whose turn it is among those that wait.
+    pub turns: Vec<usize>,
     /// The number of the machines' member, the most questions of a machine, and their steps.
     pub member: u32,
     pub limit: u32,
@@ -84,10 +105,13 @@ impl Row {
             has_name: true,
             text: Vec::new(alloc),
             has_input: true,
+            file: Parts::new(alloc),
             room: 65536,
             solver: Solver::Script,
             replies: Vec::new(alloc),
             fails: Vec::new(alloc),
+            earlier: Vec::new(alloc),
+            turns: Vec::new(alloc),
             member: 0,
             limit: 100_000,
             steps: Vec::new(alloc),
@@ -107,6 +131,30 @@ impl Row {
             words.push(alloc, word)?;
         }
         Ok(words)
+    }
+
+    /// What is said from now on of the script's child is said of a further one.
+    ///
+    /// # Errors
+    /// Want of memory.
+    pub fn add_child(&mut self, alloc: Global) -> Result<(), AllocError> {
+        let replies = mem::replace(&mut self.replies, Vec::new(alloc));
+        let fails = mem::replace(&mut self.fails, Vec::new(alloc));
+        self.earlier.push(Script { replies, fails })?;
+        Ok(())
+    }
+
+    /// The scripts of its children, in the order in which they are started.
+    ///
+    /// # Errors
+    /// Want of memory.
+    pub fn scripts(&self, alloc: Global) -> Result<Vec<Script>, AllocError> {
+        let mut scripts = Vec::new(alloc);
+        for script in &self.earlier {
+            scripts.push(copied(alloc, &script.replies, &script.fails)?)?;
+        }
+        scripts.push(copied(alloc, &self.replies, &self.fails)?)?;
+        Ok(scripts)
     }
 
     /// A row that asks this of a text.

@@ -39,6 +39,13 @@ fn add_blanks(text: &mut Vec<u8>, rest: &str) -> Result<(), AllocError> {
     Ok(())
 }
 
+fn add_turns(turns: &mut Vec<usize>, rest: &str) -> Result<(), AllocError> {
+    for number in rest.split_whitespace() {
+        turns.push(number.parse().unwrap_or(0))?;
+    }
+    Ok(())
+}
+
 // Adds so many replies, each a line.
 fn add_replies(
     alloc: Global,
@@ -67,6 +74,8 @@ fn asks_of(word: &str) -> Asks {
         "parse" => Asks::Parse,
         "beginnings" => Asks::Beginnings,
         "checks" => Asks::Checks,
+        "runs" => Asks::Runs,
+        "turns" => Asks::Turns,
         "machines" => Asks::Machines,
         "order" => Asks::Order,
         "names" => Asks::Names,
@@ -80,7 +89,7 @@ fn asks_of(word: &str) -> Asks {
 }
 
 // Takes a line of a row's text; false: it is none.
-fn take_text(row: &mut Row, word: &str, rest: &str) -> Result<bool, AllocError> {
+fn take_text(alloc: Global, row: &mut Row, word: &str, rest: &str) -> Result<bool, AllocError> {
     match word {
         "text" => row.text.extend_from_slice(rest.as_bytes())?,
         "line" => {
@@ -92,6 +101,7 @@ fn take_text(row: &mut Row, word: &str, rest: &str) -> Result<bool, AllocError> 
         "bytes" => add_bytes(&mut row.text, rest)?,
         "blanks" => add_blanks(&mut row.text, rest)?,
         "absent" => row.has_input = false,
+        "named" => row.file.push(alloc, rest)?,
         _ => return Ok(false),
     }
     Ok(true)
@@ -108,6 +118,7 @@ fn take_script(alloc: Global, row: &mut Row, word: &str, rest: &str) -> Result<b
         "part" => row.replies.push(Bytes::copy(alloc, rest.as_bytes())?)?,
         "process" => row.solver = Solver::Process,
         "fails" => row.fails.push(rest.parse().unwrap_or(0))?,
+        "child" => row.add_child(alloc)?,
         "member" => row.member = rest.parse().unwrap_or(0),
         "limit" => row.limit = rest.parse().unwrap_or(0),
         "first" => row.steps.push(Step {
@@ -135,6 +146,7 @@ fn take_call(alloc: Global, row: &mut Row, word: &str, rest: &str) -> Result<boo
         "nameless" => row.has_name = false,
         "asks" => row.asks = asks_of(rest),
         "room" => row.room = rest.parse().unwrap_or(0),
+        "turns" => add_turns(&mut row.turns, rest)?,
         _ => return Ok(false),
     }
     Ok(true)
@@ -181,7 +193,7 @@ fn end<A: Answers>(
 // Takes a line into the row that is open.
 fn take(alloc: Global, row: &mut Row, word: &str, rest: &str) -> Result<bool, AllocError> {
     Ok(
-        take_text(row, word, rest)?
+        take_text(alloc, row, word, rest)?
             || take_script(alloc, row, word, rest)?
             || take_call(alloc, row, word, rest)?,
     )
