@@ -101,8 +101,8 @@ module _ {S : Type 0} (p : Program) (width : Width) where
     visit v (Chosen c a b) x = evaluate v.reading (v.state x) c >>= λ w. v.side (place_of c) w >>= λ t. when t (visit v a x) (visit v b x)
 
     -- q of an assertion is taken from what still remains; all of it is evaluated in this state
-    abbrev pub take : State → Fraction → Assertion → Holdings → Going S Holdings
-    take s q = visit record {
+    abbrev pub to_take : State → Fraction → Visit S Holdings
+    to_take s q = record {
       reading = Permitted;
       state = λ h. s;
       pure = λ at b. require b (Failed at);
@@ -111,15 +111,21 @@ module _ {S : Type 0} (p : Program) (width : Width) where
           times width at q part.1 >>= λ b. require (at_most b (amount h part.0)) (Failed at) >>= λ _. less width at part.0 b h;
     }
 
+    abbrev pub take : State → Fraction → Assertion → Holdings → Going S Holdings
+    take s q = visit (to_take s q)
+
     -- q of an assertion is added, read left to right in the state as it then is; its truth isn't asked
-    abbrev pub add : Fraction → Assertion → State → Going S State
-    add q = visit record {
+    abbrev pub to_add : Fraction → Visit S State
+    to_add q = record {
       reading = Permitted;
       state = λ s. s;
       pure = λ at b. gives tt;
       side = decided;
       part = λ at part s. times width at q part.1 >>= λ b. more width at part.0 b s.holdings >>= λ h. gives (with_holdings h s);
     }
+
+    abbrev pub add : Fraction → Assertion → State → Going S State
+    add q = visit (to_add q)
 
   -- a function's value, where its precondition can be taken
   abbrev pub application : Deeper S → Reading → Place → Name → List Value → State → Going S Value

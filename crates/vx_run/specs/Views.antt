@@ -33,6 +33,10 @@ abbrev pub told : Result Value' Whole → Going ℕ Value
 told (Ok v) = gives (value v)
 told (Err w) = ends_with (outcome w)
 
+abbrev pub told_amount : Result Frac Whole → Going ℕ Fraction
+told_amount (Ok q) = gives (fraction q)
+told_amount (Err w) = ends_with (outcome w)
+
 -- the value that the result of an operation is, or the end where it leaves 128 bits
 abbrev pub computed : Place → (Fraction → Value) → Result Frac Over → Going ℕ Value
 computed at f (Ok x) = gives (f (fraction x))

@@ -1,5 +1,5 @@
 -- Which operations on numbers are asked whether they leave a width, and what leaves 128 bits.
-use Rattle.std.specs.Prelude.{Bool, true, Option, Some, None}
+use Rattle.std.specs.Prelude.{Bool, true, Option, Some, None, [], ◌∷◌, map}
 use Rattle.std.specs.Int.{int_div_euclid}
 use Rattle.vx_ast.specs.declared.Place.{Place}
 use Rattle.vx_ast.specs.Syntax.{Operator, Add, Subtract, Multiply, Division, Quotient, Remainder}
@@ -7,7 +7,7 @@ use Rattle.vx_frac.specs.declared.Op.{Op}
 use Rattle.vx_frac.specs.declared.Op.TheVariants as calls
 use Rattle.vx_frac.specs.Fractions.{Fraction, whole, lowest, product, fits_i128, sum_fits, difference_fits, product_fits}
 use Rattle.vx_meaning.specs.Values.{Value, IntValue, PermValue, operated, divided}
-use Rattle.vx_meaning.specs.States.{Holdings, Resource, amount, gained, lost}
+use Rattle.vx_meaning.specs.States.{Holdings, Resource, At, Folded, amount, gained, lost}
 use Rattle.vx_run.specs.Going.{Going, ◌>>=◌, gives, require, expect, Failed, Wide}
 
 -- which numbers there are: how a fraction is written, and whether the result of an operation on two of them is there
@@ -54,6 +54,15 @@ abbrev pub written_by : Width → Value → Value
 written_by width (PermValue q) = PermValue (width.written q)
 written_by width v = v
 
+-- holdings with their fractions so written
+abbrev pub written_resource : Width → Resource → Resource
+written_resource width (At l) = At l
+written_resource width (Folded i) = Folded record { predicate = i.predicate; arguments = map (written_by width) i.arguments }
+
+abbrev pub written_all : Width → Holdings → Holdings
+written_all width [] = []
+written_all width (e ∷ rest) = (written_resource width e.0, width.written e.1) ∷ written_all width rest
+
 module _ {S : Type 0} (width : Width) where
   -- the run goes on where the operation stays within the width
   abbrev pub asked : Place → Op → Fraction → Fraction → Going S (Unit {0})
@@ -72,9 +81,9 @@ module _ {S : Type 0} (width : Width) where
   divide at op v w =
       expect (divided op v w) (Failed at) >>= λ u. asked_of at (call_of_division op) (number_of v) (number_of w) >>= λ _. gives (written_by width u)
 
-  -- q times an amount
+  -- q times an amount, written as the width does
   abbrev pub times : Place → Fraction → Fraction → Going S Fraction
-  times at q b = asked at calls.Mul q b >>= λ _. gives (product q b)
+  times at q b = asked at calls.Mul q b >>= λ _. gives (width.written (product q b))
 
   -- with an amount more
   abbrev pub more : Place → Resource → Fraction → Holdings → Going S Holdings

@@ -32,7 +32,7 @@ pub fn negate(at: Place, v: Value) -> Result<Value, Whole>
 }
 
 /// The end where the result of an operation leaves 128 bits.
-fn wide(at: Place, call: Over) -> Whole
+pub fn wide(at: Place, call: Over) -> Whole
     ensures { outcome result ≡ Wide at call.op (fraction call.a) (fraction call.b) }
 {
     Whole::Wide {
@@ -227,6 +227,20 @@ fn is_reference(w: Value, a: u64) -> bool
     match w {
         Value::Ref(b) => a == b,
         Value::Int(_) | Value::Bool(_) | Value::Perm(_) => false,
+    }
+}
+
+/// Whether two values are the same.
+pub fn is_same_value(v: Value, w: Value) -> bool
+    ensures { result ≡ meaning.same_value (value v) (value w) }
+{
+    match (v, w) {
+        (Value::Int(a), Value::Int(b)) => a == b,
+        (Value::Perm(a), Value::Perm(b)) => is_same(a, b),
+        (Value::Bool(a), w) => is_truth(w, a),
+        (Value::Ref(a), w) => is_reference(w, a),
+        (Value::Int(_), Value::Bool(_) | Value::Ref(_) | Value::Perm(_)) => false,
+        (Value::Perm(_), Value::Int(_) | Value::Bool(_) | Value::Ref(_)) => false,
     }
 }
 

@@ -1,13 +1,13 @@
 //! Stores of a run.
-ghost use Rattle.std.specs.Prelude.{◌≡◌, ◌∷◌, [], ◌++◌, take, option_map, string_bytes, OnOk};
+ghost use Rattle.std.specs.Prelude.{◌≡◌, ◌∷◌, [], ◌++◌, take, option_map, string_bytes, IfOk, OnOk};
 ghost use Rattle.vx_ast.specs.Syntax.{same_name};
 ghost use Rattle.vx_meaning.specs.States as states;
 ghost use Rattle.vx_run.specs.Views.{value};
-ghost use Rattle.vx_run.specs.Pending.{store};
+ghost use Rattle.vx_run.specs.Stores.{store};
 ghost use Rattle.vx_run.specs.Stores.{place_in};
 
 use crate::values::Value;
-use std::alloc::AllocError;
+use std::alloc::{AllocError, Global};
 use std::rc::Rc;
 
 /// A variable with its value.
@@ -79,4 +79,15 @@ pub fn assign(variables: &mut Vec<Variable>, name: &Rc<String>, v: Value)
         Some(k) => variables[k].value = v,
         None => {}
     }
+}
+
+/// The same variables once more.
+pub fn copy_store(alloc: Global, variables: &[Variable]) -> Result<Vec<Variable>, AllocError>
+    ensures { IfOk result (λ xs. store xs.items ≡ store variables.now) }
+{
+    let mut copies = Vec::new(alloc);
+    for v in variables {
+        declare(&mut copies, &v.name, v.value)?;
+    }
+    Ok(copies)
 }

@@ -7,7 +7,7 @@ use Rattle.vx_meaning.specs.Values.{Value}
 use Rattle.vx_meaning.specs.States.{Store, assign}
 use Rattle.vx_run.specs.declared.store.Variable.{Variable}
 use Rattle.vx_run.specs.Views.{value}
-use Rattle.vx_run.specs.Pending.{store}
+use Rattle.vx_run.specs.Stores.{store}
 use Rattle.vx_run.specs.Stores.{place_in}
 use Rattle.vx_run.proofs.Stores.{Assigned, assigned}
 use Rattle.vx_run.proofs.store.assign.Goals as goal

@@ -1,6 +1,6 @@
 use Rattle.std.proofs.Common.{◌≡◌, ◌+◌, drop}
 use Rattle.std.specs.Prelude.{string_bytes, option_map}
-use Rattle.vx_run.specs.Pending.{store}
+use Rattle.vx_run.specs.Stores.{store}
 use Rattle.vx_run.specs.Stores.{place_in}
 use Rattle.vx_run.proofs.store.find.Given as goal
 

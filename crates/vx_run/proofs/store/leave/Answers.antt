@@ -1,7 +1,7 @@
 use Rattle.std.proofs.Common.{sym, ◌∙◌, ap}
 use Rattle.std.specs.Prelude.{string_bytes}
 use Rattle.std.specs.List.{take-map}
-use Rattle.vx_run.specs.Pending.{store}
+use Rattle.vx_run.specs.Stores.{store}
 use Rattle.vx_run.specs.Views.{value}
 use Rattle.vx_run.proofs.store.leave.Goals as goal
 

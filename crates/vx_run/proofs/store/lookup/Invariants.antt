@@ -1,7 +1,7 @@
 use Rattle.std.proofs.Common.{◌≡◌, drop}
 use Rattle.std.specs.Prelude.{string_bytes}
 use Rattle.vx_meaning.specs.States.{lookup}
-use Rattle.vx_run.specs.Pending.{store}
+use Rattle.vx_run.specs.Stores.{store}
 use Rattle.vx_run.proofs.store.lookup.Given as goal
 
 abbrev pub invariant-loop-v : goal.invariant-loop-v
