@@ -2,6 +2,7 @@
 //! system does behind them, so they are trusted.
 #![tactic(auto)]
 
+mod ahead;
 mod child;
 mod disk;
 mod sink;
