@@ -13,6 +13,8 @@ use Rattle.vx_commands.specs.declared.saying.Saying.{Saying}
 use Rattle.vx_commands.specs.declared.saying.Saying.TheVariants as saying
 use Rattle.vx_commands.specs.Outside.{Change, Texts, Spawners, Rest, AsksOnly, HasFailedToRead, IsTooLong}
 use Rattle.vx_commands.specs.Texts.{IsToldOf, Says, SaysRefused, usage}
+use Rattle.vx_commands.specs.WholeRuns.{SaysRun}
+use Rattle.vx_commands.proofs.WholeRuns.{of_run}
 use Rattle.vx_commands.specs.Promised.{IsText, IsDue}
 use Rattle.vx_commands.specs.Steps.{IsLoadedFrom, IsVerified}
 
@@ -49,6 +51,14 @@ NeverUnread Says = (text bytes : List ℕ) → Says text Unread bytes → ⊥
 pub never_unread : (what : Saying) → NeverUnread (Says what)
 never_unread saying.Typed text bytes h = h
 never_unread saying.Canonical text bytes h = h
+
+pub run_never_unread : (method : List ℕ) (seed : ℕ) → NeverUnread (SaysRun method seed)
+run_never_unread method seed text bytes h = neither (of_run method seed text Unread bytes (λ refused. absurd refused) h)
+  where
+    neither : (Unread ≡ Done) ⊎ (Unread ≡ NotVerified) ⊎ (Unread ≡ Refused) → ⊥
+    neither (inl e) = cc
+    neither (inr (inl e)) = cc
+    neither (inr (inr e)) = cc
 
 module _ (Says : List ℕ → Status → List ℕ → Type 0) (name : Option (List ℕ)) (files : Change Texts) (output : Output) where
   told_of : (text : List ℕ) → IfSome (files.before.holds name) (λ known. text ≡ known) → length text ≤ 4194304 → (s : Status) (bytes : List ℕ) → (Says text Unread bytes → ⊥) → Says text s bytes

@@ -5,3 +5,4 @@ mod Companions
 mod Untouched
 mod Either
 mod Due
+mod WholeRuns

@@ -9,12 +9,14 @@ use Rattle.vx_report.specs.declared.status.Status.TheVariants.{Done, NotVerified
 use Rattle.vx_report.specs.Statuses.{status_among}
 use Rattle.vx_report.specs.Reports.{is_verified, is_faulted}
 use Rattle.vx_words.specs.declared.order.Order.{Order}
-use Rattle.vx_words.specs.declared.order.Order.TheVariants.{Verify, Check, Print, Gen, Work}
+use Rattle.vx_words.specs.declared.order.Order.TheVariants.{Verify, Check, Print, Gen, Work, Run}
 use Rattle.vx_commands.specs.declared.saying.Saying.TheVariants as saying
 use Rattle.vx_commands.specs.declared.output.Ended.{Ended}
 use Rattle.vx_commands.specs.declared.output.Output.{Output}
 use Rattle.vx_commands.specs.declared.reports.Telling.TheVariants.{Lines}
 use Rattle.vx_commands.specs.Outside.{Change, Texts, Taken, Spawners, Ends, HasFailedToRead, IsTooLong}
+use Rattle.vx_commands.specs.WholeRuns.{SaysRun}
+use Rattle.vx_commands.proofs.WholeRuns.{of_run}
 use Rattle.vx_commands.specs.Texts.{IsToldOf, Says, SaysRefused}
 use Rattle.vx_commands.specs.Reports.{is_companion, ByWhom, IsReport, IsCompanionReport}
 use Rattle.vx_commands.specs.Promised.{IsTold, IsReportOf, IsDue, IsStatus, IsUnread, IsStatusOf, IsAnswer, Promise}
@@ -78,11 +80,32 @@ module _ (order : Option Order) (files : Change Texts) (sink : Change Taken) (ru
   of_bools : (a b : Bool) → status_among runs ≡ (if a then Faulted else (if b then NotVerified else Done))
       → IsStatusOf order files sink runs (if a then Faulted else (if b then NotVerified else Done))
   of_bools true b e = e
-  of_bools false true e = e
+  of_bools false true e = inl e
   of_bools false false e = e
 
   of_runs : IsStatusOf order files sink runs (status_among runs)
   of_runs = of_bools (list_any (λ r. is_faulted r.verdict) runs) (list_any (λ r. not (is_verified r.verdict)) runs) refl
+
+-- what else it isn't
+not_of_run : (s : Status) → (s ≡ Done → ⊥) → (s ≡ NotVerified → ⊥) → (s ≡ Refused → ⊥) → (s ≡ Done) ⊎ (s ≡ NotVerified) ⊎ (s ≡ Refused) → ⊥
+not_of_run s done failed refused (inl e) = done e
+not_of_run s done failed refused (inr (inl e)) = failed e
+not_of_run s done failed refused (inr (inr e)) = refused e
+
+of_whole_run : (files : Change Texts) (sink : Change Taken) (runs : List MemberRun) (file method : List ℕ) (seed : ℕ) (due : Status) (bytes : List ℕ)
+    → IsToldOf (SaysRun method seed) (Some file) files due bytes → runs ≡ [] → IsStatusOf (Some (Run file method seed)) files sink runs due
+of_whole_run files sink runs file method seed Done bytes told none = ap status_among none
+of_whole_run files sink runs file method seed Refused bytes told none = none
+of_whole_run files sink runs file method seed Want bytes told none = none
+of_whole_run files sink runs file method seed NotVerified bytes told none = inr (tt, none)
+of_whole_run files sink runs file method seed Unread bytes (inl failed) none = (inl failed.0, none)
+of_whole_run files sink runs file method seed Unread bytes (inr long) none = (inr long.0, none)
+of_whole_run files sink runs file method seed Usage bytes told none =
+    absurd (not_of_run Usage (λ e. cc) (λ e. cc) (λ e. cc) (of_run method seed told.0 Usage bytes (only_refused told.0 Usage bytes) told.3))
+of_whole_run files sink runs file method seed Faulted bytes told none =
+    absurd (not_of_run Faulted (λ e. cc) (λ e. cc) (λ e. cc) (of_run method seed told.0 Faulted bytes (only_refused told.0 Faulted bytes) told.3))
+of_whole_run files sink runs file method seed Unwritten bytes told none =
+    absurd (not_of_run Unwritten (λ e. cc) (λ e. cc) (λ e. cc) (of_run method seed told.0 Unwritten bytes (only_refused told.0 Unwritten bytes) told.3))
 
 of_told : (order : Option Order) (files : Change Texts) (sink : Change Taken) (runs : List MemberRun) (due : Status) (bytes : List ℕ) → IsTold order files due bytes → runs ≡ []
     → IsStatusOf order files sink runs due
@@ -93,6 +116,7 @@ of_told (Some (Check file)) files sink runs due bytes told none = of_file (Some 
 of_told (Some (Print file)) files sink runs due bytes told none = of_file (Some (Print file)) files sink runs (Says saying.Canonical) only_printed file (λ u. u) due bytes told none
 of_told (Some (Gen methods)) files sink runs due bytes told none = subst (λ x. IsStatusOf (Some (Gen methods)) files sink runs x) (sym told.done) (ap status_among none)
 of_told (Some (Work methods jobs)) files sink runs due bytes told none = absurd told
+of_told (Some (Run file method seed)) files sink runs due bytes told none = of_whole_run files sink runs file method seed due bytes told none
 
 by_either : (b : Bool) (A B C : Type 0) → (A → C) → (B → C) → ByWhom b A B → C
 by_either true A B C f g h = f h
@@ -108,6 +132,7 @@ module _ (files : Change Texts) (spawners : Spawners) (sink : Change Taken) (out
   of_report (Some (Check file)) report = absurd report
   of_report (Some (Print file)) report = absurd report
   of_report (Some (Gen methods)) report = absurd report
+  of_report (Some (Run file method seed)) report = absurd report
   of_report (Some (Work methods jobs)) report = reported (Some (Work methods jobs)) report.0.2.report.status
   of_report (Some (Verify file solver jobs)) report =
       let order = Some (Verify file solver jobs) in

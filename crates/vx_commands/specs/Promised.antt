@@ -1,7 +1,7 @@
 -- What `run` promises.
-use Rattle.std.specs.Prelude.{◌≡◌, ◌⊎◌, ℕ, List, [], ◌++◌, Option, Some, None, IfSome, take, vec_items}
+use Rattle.std.specs.Prelude.{◌≡◌, ◌⊎◌, ⊤, ℕ, List, [], ◌++◌, Option, Some, None, IfSome, take, vec_items}
 use Rattle.vx_words.specs.declared.order.Order.{Order}
-use Rattle.vx_words.specs.declared.order.Order.TheVariants.{Verify, Check, Print, Gen, Work}
+use Rattle.vx_words.specs.declared.order.Order.TheVariants.{Verify, Check, Print, Gen, Work, Run}
 use Rattle.vx_report.specs.declared.run.MemberRun.{MemberRun}
 use Rattle.vx_report.specs.declared.status.Status.{Status}
 use Rattle.vx_report.specs.declared.status.Status.TheVariants.{Done, NotVerified, Usage, Unread, Refused, Faulted, Unwritten, Want}
@@ -11,6 +11,7 @@ use Rattle.vx_commands.specs.declared.output.Output.{Output}
 use Rattle.vx_commands.specs.declared.saying.Saying.TheVariants as saying
 use Rattle.vx_commands.specs.Outside.{Change, Texts, Taken, Spawners, Ends, IsUnchanged, Rest, HandBack, AsksOnly, HasFailedToRead, IsTooLong, HasPut, HasFailedToPut}
 use Rattle.vx_commands.specs.Texts.{IsToldOf, IsGenerated, Says, SaysRefused, usage}
+use Rattle.vx_commands.specs.WholeRuns.{SaysRun}
 use Rattle.vx_commands.specs.Reports.{StartsBy, IsReportFor, IsWork, companion_alone}
 
 -- ---- what is put
@@ -23,6 +24,7 @@ IsTold (Some (Check file)) files s bytes = IsToldOf (Says saying.Typed) file fil
 IsTold (Some (Print file)) files s bytes = IsToldOf (Says saying.Canonical) file files s bytes
 IsTold (Some (Gen methods)) files s bytes = IsGenerated methods s bytes
 IsTold (Some (Work methods jobs)) files s bytes = ⊥
+IsTold (Some (Run file method seed)) files s bytes = IsToldOf (SaysRun method seed) (Some file) files s bytes
 
 -- a text that tells this, with its status, and no runs
 pub record IsText (Told : Status → List ℕ → Type 0) (output : Output) : Type 0 where
@@ -36,6 +38,7 @@ IsReportOf (Some (Check file)) files s output = ⊥
 IsReportOf (Some (Print file)) files s output = ⊥
 IsReportOf (Some (Gen methods)) files s output = ⊥
 IsReportOf (Some (Work methods jobs)) files s output = IsWork methods jobs s.companion output × IsUnchanged s.handed
+IsReportOf (Some (Run file method seed)) files s output = ⊥
 IsReportOf None files s output = ⊥
 
 -- What is to be put for an order: a text by its cause, and then no spawner is asked for anything; or a report.
@@ -77,6 +80,7 @@ file_of (Some (Check file)) = Some file
 file_of (Some (Print file)) = Some file
 file_of (Some (Gen methods)) = None
 file_of (Some (Work methods jobs)) = None
+file_of (Some (Run file method seed)) = Some (Some file)
 
 -- at most this file is asked
 abbrev pub AsksAtMost : Option (Option (List ℕ)) → Change Texts → Type 0
@@ -106,6 +110,7 @@ solver_of (Some (Check file)) = None
 solver_of (Some (Print file)) = None
 solver_of (Some (Gen methods)) = None
 solver_of (Some (Work methods jobs)) = Some (companion_alone, jobs)
+solver_of (Some (Run file method seed)) = None
 
 -- it is started at most once in each lane, and nothing is where there is none
 abbrev pub StartsAtMost : Option (List (List ℕ) × ℕ) → Spawners → Type 0
@@ -118,10 +123,20 @@ StartsSolverOf order s = StartsAtMost (solver_of order) s
 
 -- ---- all of it
 
--- What a status says. One with a report is that of its runs; the others have no runs, and each its cause.
+-- a whole run was asked for
+abbrev pub AsksRun : Option Order → Type 0
+AsksRun (Some (Run file method seed)) = ⊤
+AsksRun (Some (Verify file solver jobs)) = ⊥
+AsksRun (Some (Check file)) = ⊥
+AsksRun (Some (Print file)) = ⊥
+AsksRun (Some (Gen methods)) = ⊥
+AsksRun (Some (Work methods jobs)) = ⊥
+AsksRun None = ⊥
+
+-- What a status says. One with a report is that of its runs; the others have no runs, and each its cause. A whole run that failed has the status of a report in which a member isn't verified.
 abbrev pub IsStatusOf : Option Order → Change Texts → Change Taken → List MemberRun → Status → Type 0
 IsStatusOf order files sink runs Done = status_among runs ≡ Done
-IsStatusOf order files sink runs NotVerified = status_among runs ≡ NotVerified
+IsStatusOf order files sink runs NotVerified = (status_among runs ≡ NotVerified) ⊎ (AsksRun order × (runs ≡ []))
 IsStatusOf order files sink runs Faulted = status_among runs ≡ Faulted
 IsStatusOf order files sink runs Unwritten = HasFailedToPut sink
 IsStatusOf order files sink runs Usage = (order ≡ None) × (runs ≡ [])

@@ -46,4 +46,4 @@ pub record IsGenerated (methods : ℕ) (s : Status) (bytes : List ℕ) : Type 0 
 
 -- the line of how to use the program, where the words mean nothing
 abbrev pub usage : List ℕ
-usage = codes "usage: vsil [verify [FILE] [--solver TEXT] [--jobs N] [--certify] | check [FILE] | print [FILE] | gen N | work N [--jobs J]]\n"
+usage = codes "usage: vsil [verify [FILE] [--solver TEXT] [--jobs N] [--certify] | check [FILE] | print [FILE] | gen N | work N [--jobs J] | run FILE METHOD SEED]\n"

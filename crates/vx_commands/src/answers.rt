@@ -2,6 +2,7 @@
 
 ghost use Rattle.std.specs.Prelude.{◌≡◌, ◌++◌, ◌∷◌, [], IfOk, OnOk, codes, string_bytes, option_copied};
 ghost use Rattle.std.specs.Fmt.{decimal};
+ghost use Rattle.vx_tokens.specs.Text.{first_place};
 ghost use Rattle.vx_parser.specs.declared.fault.TextFault.TheVariants as faults;
 ghost use Rattle.vx_report.specs.Reports.{place_text};
 ghost use Rattle.vx_expressions.specs.declared.fault.TypeFault.TheVariants as untyped;
@@ -15,13 +16,16 @@ use vx_typing::{TypeFault, word_of};
 
 /// What is put where the words are no command.
 pub const USAGE: &str =
-    "usage: vsil [verify [FILE] [--solver TEXT] [--jobs N] [--certify] | check [FILE] | print [FILE] | gen N | work N [--jobs J]]\n";
+    "usage: vsil [verify [FILE] [--solver TEXT] [--jobs N] [--certify] | check [FILE] | print [FILE] | gen N | work N [--jobs J] | run FILE METHOD SEED]\n";
 
 /// What is put where the text can't be read.
 pub const UNREAD: &str = "error: cannot read\n";
 
 /// What is put where the text is too long.
 pub const TOO_LONG: &str = "error: longer than 4194304 bytes\n";
+
+// The place of what stands nowhere.
+const FIRST: Place = Place { line: 1, column: 1 };
 
 // `: CODE NAME`
 fn push_title(line: &mut String, code: &str, name: &str) -> Result<(), AllocError>
@@ -91,6 +95,25 @@ pub fn type_refusal(alloc: Global, fault: &TypeFault) -> Result<String, AllocErr
     }
 }
 
+/// The line of a whole run where no method has this name.
+pub fn no_method(alloc: Global, name: &str) -> Result<String, AllocError>
+    ensures { IfOk result (λ line. string_bytes line ≡ spec.line first_place (codes "E40") (codes "NoMethod") (name.now ∷ [])) }
+{
+    let mut line = refusal(alloc, FIRST, "E40", "NoMethod")?;
+    push_argument(&mut line, name)?;
+    line.push_str("\n")?;
+    Ok(line)
+}
+
+/// The line of a whole run where the method has no body.
+pub fn no_body(alloc: Global) -> Result<String, AllocError>
+    ensures { IfOk result (λ line. string_bytes line ≡ spec.line first_place (codes "E41") (codes "NoBody") []) }
+{
+    let mut line = refusal(alloc, FIRST, "E41", "NoBody")?;
+    line.push_str("\n")?;
+    Ok(line)
+}
+
 fn push_two(line: &mut String, first: &str, second: &str) -> Result<(), AllocError>
     ensures { OnOk result (string_bytes line.new ≡ string_bytes line.old ++ spec.behind_blanks (first.now ∷ second.now ∷ [])) }
 {
@@ -130,7 +153,7 @@ fn place_or_first(place: Option<Place>) -> Place
     ensures { result ≡ spec.place_or_first place }
 {
     match place {
-        None => Place { line: 1, column: 1 },
+        None => FIRST,
         Some(place) => place,
     }
 }

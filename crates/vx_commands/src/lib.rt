@@ -8,6 +8,7 @@ mod reading;
 mod reports;
 mod saying;
 mod top;
+mod whole_runs;
 
 pub use output::Ended;
 pub use reports::Telling;

@@ -7,6 +7,7 @@ ghost use Rattle.vx_words.specs.Orders.{order_of, IsLanes, IsWithinLimit};
 ghost use Rattle.vx_commands.specs.Refusals.{IsSpelledBy};
 ghost use Rattle.vx_commands.specs.Outside.{change, texts, taken, children, spawners, AsksOnly};
 ghost use Rattle.vx_commands.specs.Texts.{Says, IsToldOf, IsGenerated};
+ghost use Rattle.vx_commands.specs.WholeRuns.{SaysRun};
 ghost use Rattle.vx_commands.specs.Promised.{IsText, Promise};
 ghost use Rattle.vx_commands.specs.Steps.{AsksEither, IsVerified, Obeys};
 
@@ -16,6 +17,7 @@ use crate::output::{Ended, Output, put};
 use crate::reading::{Checked, Loaded, Parsed, load, read, type_of};
 use crate::reports::report_by;
 use crate::saying::Saying;
+use crate::whole_runs::run_text;
 use std::alloc::{AllocError, Global};
 use vx_ast::Program;
 use vx_companion::Builtin;
@@ -140,6 +142,24 @@ fn say_file<F: Files>(
     }
 }
 
+// What the whole run of a method of a file comes to.
+fn run_file<F: Files>(
+    alloc: Global,
+    file: &Text,
+    method: &Text,
+    seed: u64,
+    files: &mut F,
+) -> Result<Output, AllocError>
+    ensures said { IfOk result (IsText (IsToldOf (SaysRun method.now seed) (Some file.now) (change (texts F.holds F.asked F.faults) files.old files.new))) }
+    ensures asked { AsksOnly (Some file.now) (change (texts F.holds F.asked F.faults) files.old files.new) }
+{
+    match load(alloc, files, Some(file.as_str()))? {
+        Loaded::Text(text) => run_text(alloc, &text, method, seed),
+        Loaded::Unread => said(alloc, UNREAD, Status::Unread),
+        Loaded::TooLong => said(alloc, TOO_LONG, Status::Unread),
+    }
+}
+
 // The text of so many generated methods.
 fn generated(alloc: Global, methods: u32) -> Result<Output, AllocError>
     requires { methods ≤ 2000 }
@@ -169,6 +189,7 @@ fn obey<F: Files, W: Spawner>(
         Order::Print { file } => say_file(alloc, Saying::Canonical, file, files),
         Order::Gen { methods } => generated(alloc, *methods),
         Order::Work { methods, jobs } => work(alloc, *methods, *jobs, builtin),
+        Order::Run { file, method, seed } => run_file(alloc, file, method, *seed, files),
     }
 }
 

@@ -47,6 +47,14 @@ fn put_meaning(order: &Order, out: &mut Text) {
         Order::Check { file } => put_file("check", file, out),
         Order::Print { file } => put_file("print", file, out),
         Order::Gen { methods } => put_methods("gen", *methods, out),
+        Order::Run { file, method, seed } => {
+            out.put("run ");
+            out.put(method.as_str());
+            out.put(" of ");
+            out.put(file.as_str());
+            out.put(" with seed ");
+            out.natural(u128::from(*seed));
+        }
         Order::Work { methods, jobs } => {
             put_methods("work", *methods, out);
             put_jobs(*jobs, out);

@@ -6,7 +6,7 @@ use Rattle.vx_words.specs.Table.{vsil_app}
 use Rattle.vx_words.specs.Solvers.{parts_in}
 use Rattle.vx_words.specs.Numbers.{number_in}
 use Rattle.vx_words.specs.declared.order.Order.{Order}
-use Rattle.vx_words.specs.declared.order.Order.TheVariants.{Verify, Check, Print, Gen, Work}
+use Rattle.vx_words.specs.declared.order.Order.TheVariants.{Verify, Check, Print, Gen, Work, Run}
 use Rattle.vx_words.specs.declared.order.WordsFault.{WordsFault}
 use Rattle.vx_words.specs.declared.order.WordsFault.TheVariants.{Usage, Want}
 
@@ -31,14 +31,25 @@ count_in rows = option_and_then (number_in 0 2000) (first_of (codes "methods") r
 abbrev pub work_in : List Row → Option Order
 work_in rows = option_and_then (λ methods. option_map (Work methods) (jobs_in rows)) (count_in rows)
 
+-- SEED, which must be there: below 2^64
+abbrev pub seed_in : List Row → Option ℕ
+seed_in rows = option_and_then (number_in 0 18446744073709551615) (first_of (codes "seed") rows)
+
+-- FILE, METHOD and SEED, which must all be there
+abbrev pub run_in : List Row → Option Order
+run_in rows =
+    option_and_then (λ file.
+    option_and_then (λ method. option_map (Run file method) (seed_in rows)) (first_of (codes "method") rows)) (first_of (codes "file") rows)
+
 -- the order of a subcommand, by its name and its matches
 abbrev pub order_from : Text → List Row → Option Order
 order_from name rows =
     if bytes_eq name (codes "verify") then verify_in rows
     else (if bytes_eq name (codes "gen") then option_map Gen (count_in rows)
     else (if bytes_eq name (codes "work") then work_in rows
+    else (if bytes_eq name (codes "run") then run_in rows
     else (if bytes_eq name (codes "check") then Some (Check (first_of (codes "file") rows))
-    else (if bytes_eq name (codes "print") then Some (Print (first_of (codes "file") rows)) else None))))
+    else (if bytes_eq name (codes "print") then Some (Print (first_of (codes "file") rows)) else None)))))
 
 -- what the words mean, if the table takes them
 abbrev pub order_of_words : List Text → Option Order
@@ -66,3 +77,4 @@ IsWithinLimit (Check file) = Unit {0}
 IsWithinLimit (Print file) = Unit {0}
 IsWithinLimit (Gen methods) = methods ≤ 2000
 IsWithinLimit (Work methods jobs) = (methods ≤ 2000) × IsLanes jobs
+IsWithinLimit (Run file method seed) = Unit {0}

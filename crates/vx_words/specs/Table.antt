@@ -33,6 +33,9 @@ gen_shape = command (codes "gen") (plain_rule (codes "methods") ∷ [])
 abbrev pub work_shape : Shape
 work_shape = command (codes "work") (plain_rule (codes "methods") ∷ option_rule (codes "jobs") ∷ [])
 
+abbrev pub run_shape : Shape
+run_shape = command (codes "run") (plain_rule (codes "file") ∷ plain_rule (codes "method") ∷ plain_rule (codes "seed") ∷ [])
+
 -- the program: a command is wanted, and there is no help and no version
 abbrev pub top_app : App
 top_app = record (new_app (codes "vsil")) {
@@ -43,4 +46,4 @@ abbrev pub file_app : App
 file_app = with_subcommand (with_subcommand (with_subcommand top_app verify_shape) (file_shape (codes "check"))) (file_shape (codes "print"))
 
 unfoldable pub vsil_app : App
-vsil_app = with_subcommand (with_subcommand file_app gen_shape) work_shape
+vsil_app = with_subcommand (with_subcommand (with_subcommand file_app gen_shape) work_shape) run_shape

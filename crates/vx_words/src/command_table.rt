@@ -2,7 +2,7 @@
 ghost use Rattle.std.specs.Prelude.{◌≡◌, IfOk, false, codes};
 ghost use Rattle.clap.specs.Words.{rule_of, app_of, shape_of, with_subcommand};
 ghost use Rattle.clap.specs.declared.builder.command.Command.TheViews.{out-Command as fields_of};
-ghost use Rattle.vx_words.specs.Table.{plain_rule, option_rule, verify_shape, file_shape, gen_shape, work_shape, top_app, vsil_app};
+ghost use Rattle.vx_words.specs.Table.{plain_rule, option_rule, verify_shape, file_shape, gen_shape, work_shape, run_shape, top_app, vsil_app};
 
 use clap::{Arg, ArgAction, Command};
 use std::alloc::{AllocError, Global};
@@ -49,6 +49,15 @@ fn work<'a>(alloc: Global) -> Result<Command<'a>, AllocError>
     Command::new(alloc, "work")
         .arg(plain(alloc, "methods"))?
         .arg(option(alloc, "jobs"))
+}
+
+fn run<'a>(alloc: Global) -> Result<Command<'a>, AllocError>
+    ensures { IfOk result (λ c. (shape_of c ≡ run_shape) × ((fields_of c).has_globals ≡ false)) }
+{
+    Command::new(alloc, "run")
+        .arg(plain(alloc, "file"))?
+        .arg(plain(alloc, "method"))?
+        .arg(plain(alloc, "seed"))
 }
 
 // The program without its commands.
@@ -100,5 +109,7 @@ pub fn table<'a>(alloc: Global) -> Result<Command<'a>, AllocError>
     let generate = generate(alloc)?;
     let generates = with(prints, generate)?;
     let work = work(alloc)?;
-    with(generates, work)
+    let works = with(generates, work)?;
+    let run = run(alloc)?;
+    with(works, run)
 }

@@ -48,3 +48,10 @@ pub fn jobs_of(text: &str) -> Option<u32>
     let jobs = number_of(text, 1, MAX_JOBS)?;
     Some(jobs as u32)
 }
+
+/// The seed that the word writes: below 2^64.
+pub fn seed_of(text: &str) -> Option<u64>
+    ensures number { result ≡ number_in 0 18446744073709551615 text.now }
+{
+    number_of(text, 0, u64::MAX)
+}

@@ -32,6 +32,12 @@ pub enum Order {
         methods: u32,
         jobs: u32,
     },
+    /// Run a method of a file as a whole, with the choices that the seed draws.
+    Run {
+        file: Text,
+        method: Text,
+        seed: u64,
+    },
 }
 
 /// Why the words give no order.

@@ -1,10 +1,10 @@
 // The order that the matches of a subcommand give.
 ghost use Rattle.std.specs.Prelude.{◌≡◌, ◌≤◌, option_map, IfOk, IfSome, codes};
 ghost use Rattle.clap.specs.Words.{rows_of, found_of, first_of};
-ghost use Rattle.vx_words.specs.Orders.{verify_in, jobs_in, count_in, work_in, order_from, ReadsAs, IsLanes, IsWithinLimit};
+ghost use Rattle.vx_words.specs.Orders.{verify_in, jobs_in, count_in, work_in, seed_in, run_in, order_from, ReadsAs, IsLanes, IsWithinLimit};
 ghost use Rattle.vx_words.specs.declared.order.Order.TheVariants as TheOrders;
 
-use crate::numbers::{jobs_of, methods_of};
+use crate::numbers::{jobs_of, methods_of, seed_of};
 use crate::solver::parts_of;
 use crate::{Order, Text, WordsFault};
 use clap::ArgMatches;
@@ -81,6 +81,32 @@ fn work_of(matches: &ArgMatches) -> Result<Order, WordsFault>
     }
 }
 
+// The seed of a run.
+fn seed_from(matches: &ArgMatches) -> Option<u64>
+    ensures number { result ≡ seed_in (rows_of (found_of matches.now)) }
+{
+    match text_of(matches, "seed") {
+        Some(text) => seed_of(text),
+        None => None,
+    }
+}
+
+fn run_of(alloc: Global, matches: &ArgMatches) -> Result<Order, WordsFault>
+    ensures meaning { ReadsAs (run_in (rows_of (found_of matches.now))) result }
+    ensures limit { IfOk result IsWithinLimit }
+{
+    let file = text_of(matches, "file");
+    let method = text_of(matches, "method");
+    match (file, method, seed_from(matches)) {
+        (Some(file), Some(method), Some(seed)) => Ok(Order::Run {
+            file: Text::copy(alloc, file)?,
+            method: Text::copy(alloc, method)?,
+            seed,
+        }),
+        _ => Err(WordsFault::Usage),
+    }
+}
+
 /// The order of a subcommand, by its name and its matches.
 pub fn order_of(alloc: Global, name: &str, matches: &ArgMatches) -> Result<Order, WordsFault>
     ensures meaning { ReadsAs (order_from name.now (rows_of (found_of matches.now))) result }
@@ -94,6 +120,9 @@ pub fn order_of(alloc: Global, name: &str, matches: &ArgMatches) -> Result<Order
     }
     if name == "work" {
         return work_of(matches);
+    }
+    if name == "run" {
+        return run_of(alloc, matches);
     }
     let file = file_of(alloc, matches)?;
     if name == "check" {

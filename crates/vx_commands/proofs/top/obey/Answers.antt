@@ -31,3 +31,8 @@ returns-in-Work g c =
       starts = (c.work.ensures.starts, refl);
       back = record { companion = c.work.ensures.back; handed = rests_back _ refl };
     }
+
+pub returns-in-Run : goal.returns-in-Run
+returns-in-Run g c =
+    for_order _ _ _ _ _ c.in-Run.is
+    (obeyed_alone _ (at_rest _ _) _ _ c.run_file.result c.run_file.ensures.asked (IfOk-weaker c.run_file.result _ _ (λ output h. inl (h, at_rest _ _)) c.run_file.ensures.said))

@@ -11,4 +11,5 @@ returns c =
     let checks = c.in_ok-checks.ensures ∙ ap (λ app. with_subcommand app (file_shape (codes "check"))) c.in_ok-verifies.ensures in
     let prints = c.in_ok-prints.ensures ∙ ap (λ app. with_subcommand app (file_shape (codes "print"))) checks in
     let generates = c.in_ok-generates.ensures ∙ ap₂ with_subcommand prints c.in_ok-generate.ensures.0 in
-    IfOk-weaker c.with-2.result _ _ (λ m h. h ∙ ap₂ with_subcommand generates c.in_ok-work.ensures.0) c.with-2.ensures
+    let works = c.in_ok-works.ensures ∙ ap₂ with_subcommand generates c.in_ok-work.ensures.0 in
+    IfOk-weaker c.with-3.result _ _ (λ m h. h ∙ ap₂ with_subcommand works c.in_ok-run.ensures.0) c.with-3.ensures
