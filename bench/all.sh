@@ -4,7 +4,7 @@
 set -eu
 . "$(dirname "${BASH_SOURCE[0]}")/programs.sh"
 . "$(dirname "${BASH_SOURCE[0]}")/about.sh"
-scripts=(examples methods texts statements fields calls folds applications terms solver lanes scopes work sessions companion numbers few certificates smt)
+scripts=(examples methods texts statements fields calls folds applications terms runs solver lanes scopes work sessions companion numbers few certificates smt)
 VSIL=$(where_vsil)
 VSOLVE=$(where_vsolve)
 VX_ROWS=$(where_rows)

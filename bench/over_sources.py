@@ -3,8 +3,9 @@
 
     bench/over_sources.py CRATE [--built CLONE] [FLAGS..]      from the top of the repository
 
-A library below CRATE that CLONE has built (see `libraries.py`) is taken as it is; each other one is taken as its source: its statements are believed, and
-nothing of it is proved. So the check says what is left to prove in CRATE while the gate is still at work below. FLAGS are those of `rt check`, as
+A library below CRATE that CLONE has built (see `libraries.py`) is taken as it is, also where its text differs from that here; each other one is taken as its
+source: its statements are believed, and of its functions only those are checked that are called. So the check says what is left to prove in CRATE while the
+gate is still at work below. FLAGS are those of `rt check`, as
 `--only NAME` (a function by its name) or `--jobs N`. The gate doesn't rest on this. It uses the module `rtlib` beside the command `rt` of rattle-kit-13f.
 """
 

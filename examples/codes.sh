@@ -64,7 +64,7 @@ try "65,537 members" 4 "error at 65537:1: E08 TooManyMembers" check < <(fields 6
 try "4,194,304 bytes" 0 ok check < <(blanks 4194304)
 try "4,194,305 bytes" 3 "error: longer than 4194304 bytes" check < <(blanks 4194305)
 try "no such file" 3 "error: cannot read" verify "$here/codes/nosuch.vpr"
-try "no such command" 2 "usage: vsil [verify [FILE] [--solver TEXT] [--jobs N] [--certify] | check [FILE] | print [FILE] | gen N | work N [--jobs J]]" nosuch
+try "no such command" 2 "usage: vsil [verify [FILE] [--solver TEXT] [--jobs N] [--certify] | check [FILE] | print [FILE] | gen N | work N [--jobs J] | run FILE METHOD SEED]" nosuch
 if [ -c /dev/full ]; then
     "$vsil" verify "$here/codes/F01.vpr" > /dev/full
     compare "no room for the report" "status $?" "status 6"
