@@ -1,5 +1,6 @@
 mod Walks
 mod Events
+mod Numbered
 mod Moved
 mod Held
 mod Sequences
