@@ -17,14 +17,11 @@ try_file() {
     try "$name" $status "$(cat "${1%.vpr}.out")" verify "$1"
 }
 
-# Five methods, with one check each.
-five() { printf 'method %s(x: Int)\n{\n  assert x > 0\n}\n' a b c d e; }
+# Two methods, with one check each.
+two() { printf 'method %s(x: Int)\n{\n  assert x > 0\n}\n' a b; }
 
-# Their report, if each start of the solver ends with this fault: four are tried.
-faults() {
-    printf 'method %s: fault %s\n' a "$1" b "$1" c "$1" d "$1" e spent
-    echo '0 verified, 0 failed, 0 resting, 0 limited, 5 faults'
-}
+# Their report, if the first one has this fault.
+faults() { printf 'method a: fault %s\nmethod b: fault spent\n0 verified, 0 failed, 0 resting, 0 limited, 2 faults\n' "$1"; }
 
 # A method with so many checks, each of which passes.
 checks() {
@@ -57,9 +54,9 @@ missing() {
 # Where the program can't be run, nothing is tried.
 "$vsil" check < /dev/null > /dev/null || exit 8
 for file in "$here"/codes/*.vpr; do try_file "$file"; done
-try "a solver that can't be started" 5 "$(faults start)" verify --solver nosuch < <(five)
-try "a solver that ends" 5 "$(faults pipe)" verify --solver true < <(five)
-try "a solver that repeats what it is asked" 5 "$(faults reply)" verify --solver cat < <(five)
+try "a solver that can't be started" 5 "$(faults start)" verify --solver nosuch < <(two)
+try "a solver that ends" 5 "$(faults pipe)" verify --solver true < <(two)
+try "a solver that repeats what it is asked" 5 "$(faults reply)" verify --solver cat < <(two)
 try "100,000 checks" 0 $'method m: verified\n1 verified, 0 failed, 0 resting, 0 limited, 0 faults' verify < <(checks 100000)
 try "100,001 checks" 1 $'method m: limit of 100000 checks\n0 verified, 0 failed, 0 resting, 1 limited, 0 faults' verify < <(checks 100001)
 try "65,536 members" 0 ok check < <(fields 65536)

@@ -1,5 +1,5 @@
 -- What is promised where the companion is asked: its unsats and its sats are right, and where it takes what is asserted it is never lost.
-use Rattle.std.proofs.Common.{◌≡◌, inl, inr, ◌++◌, ℕ, zero, suc, ◌+◌, ◌<◌, ◌≤◌, Bool, true, false, nat_eq, List, [], ◌∷◌, Option, Some, None, Result, slice_get, take, drop, refl, ◌∙◌, sym, subst, arith, eq-eqb}
+use Rattle.std.proofs.Common.{◌≡◌, inl, inr, ◌++◌, ℕ, zero, suc, ◌+◌, ◌<◌, ◌≤◌, Bool, true, false, nat_eq, List, [], ◌∷◌, Option, Some, None, Result, take, drop, refl, ◌∙◌, sym, subst, arith, eq-eqb}
 use Rattle.std.specs.Prelude.{if◌then◌else◌}
 use Rattle.std.specs.declared.alloc.AllocError.{AllocError}
 use Rattle.std.proofs.Math.Logic.{∥∥₁_map}
@@ -29,8 +29,8 @@ use Rattle.vx_companion.proofs.Lawful.{companion_lawful}
 use Rattle.vx_runs.specs.Law.{NoWholeRunFails}
 use Rattle.vx_verifier.specs.Sequences.{IsRight, IsPossible, LastIsPossible}
 use Rattle.vx_verifier.specs.Causes.{IsLawful, AllLawful}
-use Rattle.vx_verifier.specs.Dealt.{IsDealt, runs_in, runs_of, links_in}
-use Rattle.vx_verifier.specs.Headline.{Headline, IsChild, AreReal, NeverFails, Under, IsRecorded, is_lost_in, sequence_of, script_of}
+use Rattle.vx_verifier.specs.Dealt.{IsDealt, runs_in, links_in}
+use Rattle.vx_verifier.specs.Headline.{Headline, IsLane, AreReal, NeverFails, Under, IsRecorded, sequence_of, script_of, lost_after}
 use Rattle.vx_commands.specs.declared.output.Output.{Output}
 use Rattle.vx_commands.specs.declared.reports.Telling.{Telling}
 use Rattle.vx_commands.specs.Outside.{Change, Children, HandsBack, change, companions}
@@ -68,18 +68,18 @@ dealt_within jobs some i [] h = tt
 dealt_within jobs some i (r ∷ runs) h = (subst (λ lane. lane < jobs) (sym h.0) (mod-lt i (omega (arith, some))), dealt_within jobs some (i + 1) runs h.1)
 
 -- what holds of all checks of each of these lanes holds of those of a run
-abbrev AllLanes : (Check → Type 0) → (jobs : ℕ) → ((lane child : ℕ) → List Check) → Type 0
-AllLanes P jobs checks = (lane child : ℕ) → lane < jobs → Each P (checks lane child)
+abbrev AllLanes : (Check → Type 0) → (jobs : ℕ) → ((lane : ℕ) → List Check) → Type 0
+AllLanes P jobs checks = (lane : ℕ) → lane < jobs → Each P (checks lane)
 
-own_checks : (P : Check → Type 0) (jobs : ℕ) (r : MemberRun) (checks : (lane child : ℕ) → List Check) → r.lane < jobs → AllLanes P jobs checks → Each P (sequence_of r checks)
-own_checks P jobs r checks within h = each_take P r.checks (drop r.first (checks r.lane r.child)) (each_drop P r.first (checks r.lane r.child) (h r.lane r.child within))
+own_checks : (P : Check → Type 0) (jobs : ℕ) (r : MemberRun) (checks : (lane : ℕ) → List Check) → r.lane < jobs → AllLanes P jobs checks → Each P (sequence_of r checks)
+own_checks P jobs r checks within h = each_take P r.checks (drop r.first (checks r.lane)) (each_drop P r.first (checks r.lane) (h r.lane within))
 
-all_under : (p : Program) (jobs n : ℕ) (runs : List MemberRun) (checks : (lane child : ℕ) → List Check) → AreWithin jobs runs → AllLanes IsRight jobs checks
+all_under : (p : Program) (jobs n : ℕ) (runs : List MemberRun) (checks : (lane : ℕ) → List Check) → AreWithin jobs runs → AllLanes IsRight jobs checks
     → Under (λ own. Each IsRight own) p n runs checks
 all_under p jobs n [] checks within h = tt
 all_under p jobs n (r ∷ runs) checks within h = (λ leads. own_checks IsRight jobs r checks within.0 h, all_under p jobs n runs checks within.1 h)
 
-sound_alone : (p : Program) (jobs : ℕ) (all runs : List MemberRun) (checks : (lane child : ℕ) → List Check) → AreWithin jobs all → AllLanes IsRight jobs checks
+sound_alone : (p : Program) (jobs : ℕ) (all runs : List MemberRun) (checks : (lane : ℕ) → List Check) → AreWithin jobs all → AllLanes IsRight jobs checks
     → Each (λ (r : MemberRun). r.verdict ≡ Verified → Under (λ own. Each IsRight own) p r.member.0 all checks → NeverFails p r.member.0) runs → AllNeverFail p runs
 sound_alone p jobs all [] checks within right h = tt
 sound_alone p jobs all (r ∷ runs) checks within right h =
@@ -99,7 +99,7 @@ last_possible [] right = ∣ tt ∣₁
 last_possible (c ∷ []) right = possible c c.reply refl right.0
 last_possible (c ∷ d ∷ checks) right = last_possible (d ∷ checks) right.1
 
-real_alone : (p : Program) (jobs : ℕ) (runs : List MemberRun) (checks : (lane child : ℕ) → List Check) → AreWithin jobs runs → AllLanes companion.IsRight jobs checks
+real_alone : (p : Program) (jobs : ℕ) (runs : List MemberRun) (checks : (lane : ℕ) → List Check) → AreWithin jobs runs → AllLanes companion.IsRight jobs checks
     → AreReal p runs checks → FailuresAreReal p runs
 real_alone p jobs [] checks within right h = tt
 real_alone p jobs (r ∷ runs) checks within right h =
@@ -149,36 +149,27 @@ is_lawful : (pieces : List Piece) → HasLawfulReplies pieces → IsLawful piece
 is_lawful pieces lawful kept (inl garbled) = (lawful kept).0 garbled
 is_lawful pieces lawful kept (inr refused) = (lawful kept).1 refused
 
-some_is : {A : Type 0} (a b : A) → (let o : Option A = Some a in o) ≡ Some b → a ≡ b
-some_is a b e = cc
+-- a lane whose link is the companion's
+module _ (p : Program) (links : List Ending) (f g lane : ℕ) (turns : List ScopedTurn) (checks : List Check) (runs : List MemberRun) (h : IsLane p links f g lane turns checks runs) (have : Each HasCauses links) where
+  own_cause : (e : Ending) → links ≡ e ∷ [] → HasCauses e
+  own_cause e is = (subst (Each HasCauses) is have).0
 
--- what holds of each of a list holds of the one with this number, and the other way
-get_each : (P : Ending → Type 0) (xs : List Ending) (k : ℕ) (e : Ending) → Each P xs → slice_get xs k ≡ Some e → P e
-get_each P [] k e all is = absurd (cc)
-get_each P (x ∷ xs) zero e all is = subst P (some_is x e is) all.0
-get_each P (x ∷ xs) (suc k) e all is = get_each P xs k e all.1 is
+  lane_rights : IsRecorded (function_symbols p) (lost_after false runs) links turns checks → Each companion.IsRight checks
+  lane_rights (inl none) = subst (λ cs. Each companion.IsRight cs) (sym none.1) tt
+  lane_rights (inr told) =
+      let by = own_cause told.0 told.1 in
+      companion_right (lost_after false runs) (script_of p turns) told.0.dialogue by.0 checks h.well_formed (script_sorted (function_symbols p) turns h.sorted) told.2 by.1
 
-each_get : (P : Ending → Type 0) (xs : List Ending) → ((k : ℕ) (e : Ending) → slice_get xs k ≡ Some e → P e) → Each P xs
-each_get P [] all = tt
-each_get P (x ∷ xs) all = (all zero x refl, each_get P xs (λ k e is. all (suc k) e is))
+  lawful_by : (taken : Each IsTaken (script_of p turns)) (e : Ending) → links ≡ e ∷ [] → Tells (lost_after false runs) (script_of p turns) e.dialogue checks → HasLawfulReplies e.dialogue
+  lawful_by taken e is tells =
+      let by = own_cause e is in
+      companion_lawful (lost_after false runs) (script_of p turns) e.dialogue by.0 checks h.well_formed
+      (script_sorted (function_symbols p) turns h.sorted) taken (script_fits (function_symbols p) turns) tells by.1
 
--- a child of a lane whose link is the companion's
-module _ (p : Program) (link : Option Ending) (turns : List ScopedTurn) (checks : List Check) (runs : List MemberRun) (h : IsChild p link turns checks runs) (have : (e : Ending) → link ≡ Some e → HasCauses e) where
-  child_rights : Each companion.IsRight checks
-  child_rights = by_link link refl h.recorded
-    where
-      by_link : (l : Option Ending) → link ≡ l → IsRecorded (function_symbols p) (is_lost_in runs) l turns checks → Each companion.IsRight checks
-      by_link None is none = subst (λ cs. Each companion.IsRight cs) (sym none) tt
-      by_link (Some e) is tells =
-          let by = have e is in
-          companion_right (is_lost_in runs) (script_of p turns) e.dialogue by.0 checks h.well_formed (script_sorted (function_symbols p) turns h.sorted) tells by.1
-
-  child_lawful : Each IsTaken (script_of p turns) → (e : Ending) → link ≡ Some e → IsLawful e.dialogue
-  child_lawful taken e is =
-      let by = have e is in
-      let tells : Tells (is_lost_in runs) (script_of p turns) e.dialogue checks = subst (λ (l : Option Ending). IsRecorded (function_symbols p) (is_lost_in runs) l turns checks) is h.recorded in
-      is_lawful e.dialogue (companion_lawful (is_lost_in runs) (script_of p turns) e.dialogue by.0 checks h.well_formed
-      (script_sorted (function_symbols p) turns h.sorted) taken (script_fits (function_symbols p) turns) tells by.1)
+  lane_lawful : Each IsTaken (script_of p turns) → IsRecorded (function_symbols p) (lost_after false runs) links turns checks → Each (λ (e : Ending). IsLawful e.dialogue) links
+  lane_lawful taken (inl none) = subst (Each (λ (e : Ending). IsLawful e.dialogue)) (sym none.0) tt
+  lane_lawful taken (inr told) =
+      subst (Each (λ (e : Ending). IsLawful e.dialogue)) (sym told.1) (is_lawful told.0.dialogue (lawful_by taken told.0 told.1 told.2), tt)
 
 module _ (p : Program) (jobs : ℕ) (some : 1 ≤ jobs) (before now : List Ending) (causes : List (List Cause)) (f g : ℕ) (runs : List MemberRun) (h : Headline p jobs before now f g runs)
     (all : AllByCompanion now causes) where
@@ -188,15 +179,13 @@ module _ (p : Program) (jobs : ℕ) (some : 1 ≤ jobs) (before now : List Endin
   have : (lane : ℕ) → Each HasCauses (links_in lane h.since)
   have lane = in_lane HasCauses lane h.since (have_causes before h.since causes (subst (λ ended. AllByCompanion ended causes) h.is all))
 
-  have_at : (lane child : ℕ) (e : Ending) → slice_get (links_in lane h.since) child ≡ Some e → HasCauses e
-  have_at lane child e is = get_each HasCauses (links_in lane h.since) child e (have lane) is
-
   rights : AllLanes companion.IsRight jobs h.checks
-  rights lane child l =
-      child_rights p (slice_get (links_in lane h.since) child) (h.turns lane child) (h.checks lane child) (runs_of child (runs_in lane runs)) ((h.lanes lane l).children child) (have_at lane child)
+  rights lane l =
+      let own = h.lanes lane l in
+      lane_rights p (links_in lane h.since) f g lane (h.turns lane) (h.checks lane) (runs_in lane runs) own (have lane) own.recorded
 
   unsats : AllLanes IsRight jobs h.checks
-  unsats lane child l = unsats_right (h.checks lane child) (rights lane child l)
+  unsats lane l = unsats_right (h.checks lane) (rights lane l)
 
   -- a member that is verified never fails
   pub verified_sound : AllNeverFail p runs
@@ -210,12 +199,11 @@ module _ (p : Program) (jobs : ℕ) (some : 1 ≤ jobs) (before now : List Endin
   pub sat_real : FailuresAreReal p runs
   sat_real = real_alone p jobs runs h.checks within rights h.real
 
-  pub all_lawful : ((lane child : ℕ) → lane < jobs → Each IsTaken (script_of p (h.turns lane child))) → AllLawful before now
+  pub all_lawful : ((lane : ℕ) → lane < jobs → Each IsTaken (script_of p (h.turns lane))) → AllLawful before now
   all_lawful taken since is =
       let lawful : Each (λ (e : Ending). IsLawful e.dialogue) h.since = by_lanes (λ (e : Ending). IsLawful e.dialogue) jobs h.since h.within (λ lane l.
-      each_get (λ (e : Ending). IsLawful e.dialogue) (links_in lane h.since) (λ child e at.
-      child_lawful p (slice_get (links_in lane h.since) child) (h.turns lane child) (h.checks lane child) (runs_of child (runs_in lane runs)) ((h.lanes lane l).children child) (have_at lane child)
-      (taken lane child l) e at)) in
+      let own = h.lanes lane l in
+      lane_lawful p (links_in lane h.since) f g lane (h.turns lane) (h.checks lane) (runs_in lane runs) own (have lane) (taken lane l) own.recorded) in
       subst (Each (λ (e : Ending). IsLawful e.dialogue)) (append_cancel_left before h.since since (sym h.is ∙ is)) lawful
 
 -- ---- its report

@@ -1,5 +1,5 @@
 -- What is said of a file, and of words that mean nothing, is what is due.
-use Rattle.std.proofs.Common.{◌≡◌, inl, inr, ℕ, ◌≤◌, List, [], Option, Some, None, IfSome, length, vec_items, refl, sym, subst}
+use Rattle.std.proofs.Common.{◌≡◌, ◌⊎◌, inl, inr, ℕ, ◌≤◌, List, [], Option, Some, None, IfSome, length, vec_items, refl, sym, subst}
 use Rattle.std.specs.Prelude.{codes, Vec}
 use Rattle.std.specs.declared.alloc.Global.{Global}
 use Rattle.vx_report.specs.declared.status.Status.{Status}

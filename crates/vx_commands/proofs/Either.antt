@@ -5,7 +5,7 @@ use Rattle.std.proofs.lemmas.Result.{IfOk-weaker}
 use Rattle.vx_ast.specs.Syntax.{Program}
 use Rattle.vx_commands.specs.declared.output.Output.{Output}
 use Rattle.vx_commands.specs.declared.reports.Telling.TheVariants.{Lines}
-use Rattle.vx_commands.specs.Outside.{Spawners, IsUnchanged}
+use Rattle.vx_commands.specs.Outside.{Spawners, IsUnchanged, StartsOnly}
 use Rattle.vx_commands.specs.Reports.{is_companion, ByWhom, IsReport, IsCompanionReport, IsReportBy}
 use Rattle.vx_commands.specs.Steps.{Asks, AsksEither}
 use Rattle.vx_commands.proofs.Untouched.{rests_back}

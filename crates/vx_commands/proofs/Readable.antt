@@ -31,7 +31,7 @@ use Rattle.vx_companion.specs.Lawful.{IsTaken}
 use Rattle.vx_verifier.specs.Dealt.{runs_in, links_in}
 use Rattle.vx_verifier.specs.Headline.{Headline, IsLane, script_of}
 use Rattle.vx_verifier.proofs.Said.{Asserts, HoldsOf, declared_all, script_all}
-use Rattle.vx_verifier.proofs.Askable.{AllAsk, turns_told}
+use Rattle.vx_verifier.proofs.Askable.{AllAsk, turns_ask}
 use Rattle.vx_commands.specs.Reports.{IsShallow}
 
 -- the numerals of a program that a text spells
@@ -98,14 +98,13 @@ all_taken [] shaped shallow = tt
 all_taken (c ∷ cs) shaped shallow = (taken_by c shaped.0 shallow.0, all_taken cs shaped.1 shallow.1)
 
 -- what isn't too deep is taken
-child_taken : (p : Program) → HasSmallNumerals p → (links : List Ending) (f g lane child : ℕ) (turns : (child : ℕ) → List ScopedTurn) (checks : (child : ℕ) → List Check) (runs : List MemberRun)
-    → IsLane p links f g lane turns checks runs → Each IsShallow (script_of p (turns child)) → Each IsTaken (script_of p (turns child))
-child_taken p small links f g lane child turns checks runs h shallow =
-    let asked : AreTurns AssertsShaped (map plain (turns child)) =
-    subst (AreTurns AssertsShaped) (sym (h.children child).asked) (turns_told AssertsShaped p (member_asserts p small) links f g lane runs checks h.told child (checks child)) in
-    all_taken (script_of p (turns child)) (script_all IsShapedCommand IsShaped all_shaped (function_symbols p) (turns child) first_shaped (turns_assert (turns child) asked)) shallow
+lane_taken : (p : Program) → HasSmallNumerals p → (links : List Ending) (f g lane : ℕ) (turns : List ScopedTurn) (checks : List Check) (runs : List MemberRun)
+    → IsLane p links f g lane turns checks runs → Each IsShallow (script_of p turns) → Each IsTaken (script_of p turns)
+lane_taken p small links f g lane turns checks runs h shallow =
+    let asked : AreTurns AssertsShaped (map plain turns) = subst (AreTurns AssertsShaped) (sym h.asked) (turns_ask AssertsShaped p links f g lane (member_asserts p small) false 0 runs checks h.told) in
+    all_taken (script_of p turns) (script_all IsShapedCommand IsShaped all_shaped (function_symbols p) turns first_shaped (turns_assert turns asked)) shallow
 
 module _ (p : Program) (small : HasSmallNumerals p) (jobs : ℕ) (before now : List Ending) (f g : ℕ) (runs : List MemberRun) (h : Headline p jobs before now f g runs) where
-  -- so it is with each child of a lane
-  pub script_taken : ((lane child : ℕ) → lane < jobs → Each IsShallow (script_of p (h.turns lane child))) → (lane child : ℕ) → lane < jobs → Each IsTaken (script_of p (h.turns lane child))
-  script_taken shallow lane child l = child_taken p small (links_in lane h.since) f g lane child (h.turns lane) (h.checks lane) (runs_in lane runs) (h.lanes lane l) (shallow lane child l)
+  -- so it is in each lane
+  pub script_taken : ((lane : ℕ) → lane < jobs → Each IsShallow (script_of p (h.turns lane))) → (lane : ℕ) → lane < jobs → Each IsTaken (script_of p (h.turns lane))
+  script_taken shallow lane l = lane_taken p small (links_in lane h.since) f g lane (h.turns lane) (h.checks lane) (runs_in lane runs) (h.lanes lane l) (shallow lane l)

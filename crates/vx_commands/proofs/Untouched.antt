@@ -1,5 +1,5 @@
 -- Whatever is ordered, a call may ask for no file and start nothing.
-use Rattle.std.proofs.Common.{◌≡◌, inl, Bool, true, false, List, [], ℕ, Option, Some, None, Result, IfOk, refl, sym, ◌∙◌, subst, arith}
+use Rattle.std.proofs.Common.{◌≡◌, inl, Bool, true, false, List, [], ◌++◌, ℕ, Option, Some, None, Result, IfOk, refl, sym, ◌∙◌, subst, arith}
 use Rattle.std.specs.declared.alloc.AllocError.{AllocError}
 use Rattle.std.proofs.lemmas.List.{append_cancel_left, append-nil}
 use Rattle.vx_terms.specs.Interpretations.{Each}
@@ -32,7 +32,7 @@ itself_back s = record {
 
 -- and started nothing
 itself_starts : (jobs : ℕ) (command : List (List ℕ)) (s : Children) → StartsOnly jobs command (record { before = s; after = s })
-itself_starts jobs command s = record { since = []; is = sym (append-nil s.starts); within = tt; each = λ lane within. (0, omega arith, refl, tt) }
+itself_starts jobs command s = record { since = []; is = sym (append-nil s.starts); within = tt; each = λ lane within. (false, refl, tt) }
 
 pub rests_back : (c : Change Children) → IsUnchanged c → HandsBack c
 rests_back c same = subst (λ (s : Children). HandsBack (record { before = c.before; after = s })) (sym same) (itself_back c.before)

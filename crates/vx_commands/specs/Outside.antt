@@ -80,9 +80,9 @@ pub record HandsBack (spawner : Change Children) : Type 0 where
   pub calm : IsTrue spawner.before.steady → spawner.before.faults < 2 ^ 64 - 1
       → NoCountRose spawner.before.ended spawner.after.ended spawner.before.faults spawner.after.faults
 
--- at most four starts in each of so many lanes, and none in another, by this command
+-- at most one start in each of so many lanes, and none in another, by this command
 abbrev pub StartsOnly : (jobs : ℕ) → (command : List (List ℕ)) → Change Children → Type 0
-StartsOnly jobs command spawner = Starts jobs command spawner.before.starts spawner.after.starts (λ lane tries. ⊤)
+StartsOnly jobs command spawner = Starts jobs command spawner.before.starts spawner.after.starts (λ lane started. ⊤)
 
 -- what both spawners show: that of the companion in process, and the one that is handed in
 pub record Spawners : Type 0 where

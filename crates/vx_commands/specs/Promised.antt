@@ -112,7 +112,7 @@ solver_of (Some (Gen methods)) = None
 solver_of (Some (Work methods jobs)) = Some (companion_alone, jobs)
 solver_of (Some (Run file method seed)) = None
 
--- it is started at most four times in each lane, and nothing is where there is none
+-- it is started at most once in each lane, and nothing is where there is none
 abbrev pub StartsAtMost : Option (List (List ℕ) × ℕ) → Spawners → Type 0
 StartsAtMost None s = Rest s
 StartsAtMost (Some solver) s = StartsBy solver.0 solver.1 s

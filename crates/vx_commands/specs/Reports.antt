@@ -1,5 +1,5 @@
 -- What a report says of a program.
-use Rattle.std.specs.Prelude.{◌≡◌, ⊤, ℕ, ◌<◌, ◌≤◌, nat_lt, Bool, true, false, List, [], ◌∷◌, Some, codes, slice_get, vec_items}
+use Rattle.std.specs.Prelude.{◌≡◌, ⊤, ℕ, ◌<◌, ◌≤◌, Bool, true, false, List, [], ◌∷◌, Some, codes, slice_get, vec_items}
 use Rattle.std.specs.Str.{bytes_eq}
 use Rattle.vx_ast.specs.declared.Place.{Place}
 use Rattle.vx_ast.specs.Syntax.{Program, Member, Method, IsMethod}
@@ -48,8 +48,8 @@ pub record IsReport (telling : Telling) (p : Program) (jobs : ℕ) (command : Li
   pub headline : Headline p jobs spawner.before.ended spawner.after.ended spawner.before.faults spawner.after.faults output.runs.items
   pub text : vec_items output.bytes ≡ text_of telling p output.runs.items
   pub status : output.status ≡ status_among output.runs.items
-  -- in a lane the command is started where one of its members has a question, at most four times, and else never
-  pub started : Starts jobs command spawner.before.starts spawner.after.starts (λ lane tries. nat_lt 0 tries ≡ some_ask p (members_of (runs_in lane output.runs.items)))
+  -- in a lane the command is started once where one of its members has a question, and else never
+  pub started : Starts jobs command spawner.before.starts spawner.after.starts (λ lane started. started ≡ some_ask p (members_of (runs_in lane output.runs.items)))
 
 -- a member that is verified never fails
 abbrev pub AllNeverFail : Program → List MemberRun → Type 0
@@ -72,7 +72,7 @@ pub record IsCompanionReport (telling : Telling) (p : Program) (jobs : ℕ) (com
   -- where all members are verified no whole run of a method fails
   pub whole_runs : Each (λ (r : MemberRun). r.verdict ≡ verdict.Verified) output.runs.items → NoWholeRunFails p
   pub real : FailuresAreReal p output.runs.items
-  pub no_fault : ((lane child : ℕ) → lane < jobs → Each IsShallow (script_of p (report.headline.turns lane child))) → HasNoFault output.runs.items
+  pub no_fault : ((lane : ℕ) → lane < jobs → Each IsShallow (script_of p (report.headline.turns lane))) → HasNoFault output.runs.items
   -- each command had the reply that the companion has for it, and each undecided one has its cause
   pub replies : AllByCompanion spawner.after.ended spawner.after.causes
 
@@ -93,7 +93,7 @@ abbrev pub ByWhom : Bool → Type 0 → Type 0 → Type 0
 ByWhom true Companion Handed = Companion
 ByWhom false Companion Handed = Handed
 
--- The spawner that the solver names starts it at most four times in each of so many lanes; the other shows what it showed.
+-- The spawner that the solver names starts it once at most in each of so many lanes; the other shows what it showed.
 abbrev pub StartsBy : (solver : List (List ℕ)) → (jobs : ℕ) → Spawners → Type 0
 StartsBy solver jobs s =
     ByWhom (is_companion solver) (StartsOnly jobs solver s.companion × IsUnchanged s.handed) (IsUnchanged s.companion × StartsOnly jobs solver s.handed)

@@ -10,7 +10,7 @@ pub enum Cause {
     Pipe,
     /// Its child could not be started.
     Start,
-    /// Four earlier members of its lane are faulted, and no further child is started.
+    /// Its lane's child was lost before, and no further one is started.
     Spent,
     /// The last bytes got, of which at most 4,096 are kept, are no lawful reply to the command they answer.
     Reply(Bytes),

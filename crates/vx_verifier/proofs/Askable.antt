@@ -1,5 +1,5 @@
 -- What holds of each question of the members' trees holds of what a lane's child is asked.
-use Rattle.std.proofs.Common.{◌≡◌, ℕ, ◌==◌, Bool, true, false, ◌++◌, ◌∷◌, [], List, take, drop, refl, ap, ◌∙◌, sym, subst, append_assoc}
+use Rattle.std.proofs.Common.{◌≡◌, ℕ, ◌+◌, ◌||◌, Bool, true, false, ◌++◌, ◌∷◌, [], List, length, take, drop, refl, ap, ◌∙◌, sym, subst, append_assoc, if◌then◌else◌}
 use Rattle.vx_ast.specs.Syntax.{Program}
 use Rattle.vx_terms.specs.Terms.{Term}
 use Rattle.vx_terms.specs.Interpretations.{Each}
@@ -7,20 +7,17 @@ use Rattle.vx_smt_meaning.specs.Dialogues.{Check}
 use Rattle.vx_smt_meaning.specs.declared.reply.Reply.{Reply}
 use Rattle.vx_smt_meaning.specs.declared.reply.Reply.TheVariants.{Unsat, Sat, Unknown}
 use Rattle.vx_ends.specs.declared.piece.Ending.{Ending}
-use Rattle.vx_dialogue.specs.Turns.{Turn}
+use Rattle.vx_dialogue.specs.Turns.{Turn, Leaves}
 use Rattle.vx_dialogue.specs.Askable.{AreTurns}
 use Rattle.vx_rules.specs.Trees.{Question, Answered, Ending as Ends, Passed, Failed, Open, Tree, End, Impossible, On, Step, Ask, Probe, Fork, Walked, walk_then, asked, probed, passed}
 use Rattle.vx_machine.specs.Runs.{member_tree}
-use Rattle.vx_report.specs.declared.run.Cause.TheVariants as cause
 use Rattle.vx_report.specs.declared.run.Verdict.{Verdict}
-use Rattle.vx_report.specs.declared.run.Verdict.TheVariants as verdict
 use Rattle.vx_report.specs.declared.run.MemberRun.{MemberRun}
+use Rattle.vx_report.specs.Reports.{is_faulted}
 use Rattle.vx_verifier.specs.Sequences.{replies_to}
-use Rattle.vx_verifier.specs.Headline.{AreTold, asks_of, open_turn, failed_turn, left_turn, next_child, turns_of, walk_of}
-use Rattle.vx_verifier.specs.Causes.{faults_by, loses_child}
-use Rattle.vx_verifier.specs.Dealt.{runs_of}
-use Rattle.vx_verifier.proofs.Dealt.{same_is}
-use Rattle.vx_verifier.proofs.Numbered.{Numbered, none_behind, numbered_told, run_elsewhere, run_here}
+use Rattle.vx_verifier.specs.Headline.{AreTold, asks_of, open_turn, failed_turn, left_turn, member_turns, turns_of, walk_of}
+use Rattle.vx_verifier.proofs.Runs.{own_front}
+use Rattle.vx_verifier.proofs.Walks.{walk_extends}
 
 module _ (P : List Term → Term → Type 0) where
   abbrev pub AllAsk : Tree → Type 0
@@ -76,43 +73,46 @@ module _ (P : List Term → Term → Type 0) where
   open_askable Passed rest h none = subst (AreTurns P) (sym none) tt
   open_askable (Failed place c r) rest h none = subst (AreTurns P) (sym none) tt
 
-  last_askable : (v : Verdict) (e : Ends) (rest : List Turn) → IsOpenAskable e → AreTurns P rest → (faults_by loses_child v ≡ true → rest ≡ []) → AreTurns P (failed_turn e v ++ (left_turn v ++ rest))
-  last_askable verdict.Verified e rest h askable none = askable
-  last_askable (verdict.Failed place c r) e rest h askable none = askable
-  last_askable (verdict.Rests m) e rest h askable none = askable
-  last_askable verdict.Limit e rest h askable none = askable
-  last_askable (verdict.Fault cause.Pipe) e rest h askable none = open_askable e rest h (none refl)
-  last_askable (verdict.Fault cause.Start) e rest h askable none = askable
-  last_askable (verdict.Fault cause.Spent) e rest h askable none = askable
-  last_askable (verdict.Fault (cause.Reply kept)) e rest h askable none = open_askable e rest h (none refl)
+  last_askable : (lost b : Bool) (e : Ends) (rest : List Turn) → IsOpenAskable e → AreTurns P rest → ((lost || b) ≡ true → rest ≡ []) → (f : List Turn)
+      → (lost ≡ true → f ≡ []) → (lost ≡ false → f ≡ (if b then open_turn e else [])) → AreTurns P (f ++ (left_turn (lost || b) ++ rest))
+  last_askable true b e rest h askable none f gone here = subst (λ x. AreTurns P (x ++ rest)) (sym (gone refl)) askable
+  last_askable false true e rest h askable none f gone here = subst (λ x. AreTurns P (x ++ rest)) (sym (here refl)) (open_askable e rest h (none refl))
+  last_askable false false e rest h askable none f gone here = subst (λ x. AreTurns P (x ++ (Leaves ∷ rest))) (sym (here refl)) askable
 
-module _ (P : List Term → Term → Type 0) (p : Program) (all : (k : ℕ) → AllAsk P (member_tree p k)) where
-  -- a run more, behind which nothing is of its child where that was lost
-  run_ask : (r : MemberRun) (runs : List MemberRun) (checks : List Check) → (faults_by loses_child r.verdict ≡ true → runs ≡ []) → AreTurns P (turns_of p runs (drop r.checks checks))
-      → AreTurns P (turns_of p (r ∷ runs) checks)
-  run_ask r runs checks none later =
+  failed_gone : (lost : Bool) (e : Ends) (v : Verdict) → lost ≡ true → failed_turn lost e v ≡ []
+  failed_gone true e v is = refl
+  failed_gone false e v is = cc
+
+  failed_here : (lost : Bool) (e : Ends) (v : Verdict) → lost ≡ false → failed_turn lost e v ≡ (if is_faulted v then open_turn e else [])
+  failed_here true e v is = cc
+  failed_here false e v is = refl
+
+module _ (P : List Term → Term → Type 0) (p : Program) (links : List Ending) (f g lane : ℕ) where
+  -- behind a fault nothing is asked
+  silent : (first : ℕ) (runs : List MemberRun) (checks : List Check) → AreTold p links f g lane true first runs checks → turns_of true p runs checks ≡ []
+  silent first [] checks told = refl
+  silent first (r ∷ runs) checks told =
+      let front = own_front r.checks checks told.0 told.1 told.2 told.3.count in
+      let none : take r.checks checks ≡ [] = front.0 ∙ told.3.spent.0 in
+      let here : member_turns true p r.member.0 (take r.checks checks) r.verdict ≡ [] =
+      ap (λ x. member_turns true p r.member.0 x r.verdict) none ∙ ap (λ x. (asks_of x ++ []) ++ []) (walk_extends (member_tree p r.member.0)).none in
+      ap (λ x. x ++ turns_of true p runs (drop r.checks checks)) here ∙ (ap (turns_of true p runs) front.1 ∙ silent (first + length told.0) runs told.1 told.4)
+
+  pub turns_ask : ((k : ℕ) → AllAsk P (member_tree p k)) → (lost : Bool) (first : ℕ) (runs : List MemberRun) (checks : List Check)
+      → AreTold p links f g lane lost first runs checks → AreTurns P (turns_of lost p runs checks)
+  turns_ask all lost first [] checks told = tt
+  turns_ask all lost first (r ∷ runs) checks told =
       let n = r.member.0 in
+      let front = own_front r.checks checks told.0 told.1 told.2 told.3.count in
+      let gone = lost || is_faulted r.verdict in
       let w = walk_of p n (take r.checks checks) in
-      let rest = turns_of p runs (drop r.checks checks) in
+      let rest = turns_of gone p runs (drop r.checks checks) in
       let met : MeetsAskable P w = through P (member_tree p n) passed (all n) (λ rs. record { answered = tt; last = tt }) (replies_to (take r.checks checks)) in
-      let failed = failed_turn w.ending r.verdict in
-      let ends = last_askable P r.verdict w.ending rest met.last later (λ lost. ap (λ rs. turns_of p rs (drop r.checks checks)) (none lost)) in
-      subst (AreTurns P) (sym (append_assoc (asks_of w.answered ++ failed) (left_turn r.verdict) rest ∙ append_assoc (asks_of w.answered) failed (left_turn r.verdict ++ rest)))
-      (asks_askable P w.answered (failed ++ (left_turn r.verdict ++ rest)) met.answered ends)
-
-  -- what a child is asked
-  turns_ask : (k child : ℕ) (runs : List MemberRun) (checks : List Check) → Numbered child runs → AreTurns P (turns_of p (runs_of k runs) checks)
-  turns_ask k child [] checks numbered = tt
-  turns_ask k child (r ∷ runs) checks numbered = by_test (λ cs. turns_ask k (next_child child r.verdict) runs cs numbered.1) (r.child == k) refl
-    where
-      by_test : ((cs : List Check) → AreTurns P (turns_of p (runs_of k runs) cs)) → (b : Bool) → (r.child == k) ≡ b → AreTurns P (turns_of p (runs_of k (r ∷ runs)) checks)
-      by_test later true same =
-          let is : child ≡ k = sym numbered.0 ∙ same_is r.child k same in
-          subst (λ rs. AreTurns P (turns_of p rs checks)) (sym (run_here k r runs same))
-          (run_ask r (runs_of k runs) checks (λ lost. subst (λ (j : ℕ). runs_of j runs ≡ []) is (none_behind child r.verdict runs lost numbered.1)) (later (drop r.checks checks)))
-      by_test later false other = subst (λ rs. AreTurns P (turns_of p rs checks)) (sym (run_elsewhere k r runs other)) (later checks)
-
-  -- so it is with each child of a lane that is told
-  pub turns_told : (links : List Ending) (f g lane : ℕ) (runs : List MemberRun) (checks : ℕ → List Check) → AreTold p links f g lane 0 0 0 runs checks → (k : ℕ) (own : List Check)
-      → AreTurns P (turns_of p (runs_of k runs) own)
-  turns_told links f g lane runs checks told k own = turns_ask k 0 runs own (numbered_told p links f g lane 0 0 0 runs checks told)
+      let later : AreTurns P rest = subst (λ x. AreTurns P (turns_of gone p runs x)) (sym front.1) (turns_ask all gone (first + length told.0) runs told.1 told.4) in
+      let none : gone ≡ true → rest ≡ [] = λ is.
+      ap (λ b. turns_of b p runs (drop r.checks checks)) is ∙ (ap (turns_of true p runs) front.1
+      ∙ silent (first + length told.0) runs told.1 (subst (λ b. AreTold p links f g lane b (first + length told.0) runs told.1) is told.4)) in
+      let failed = failed_turn lost w.ending r.verdict in
+      let ends = last_askable P lost (is_faulted r.verdict) w.ending rest met.last later none failed (failed_gone P lost w.ending r.verdict) (failed_here P lost w.ending r.verdict) in
+      subst (AreTurns P) (sym (append_assoc (asks_of w.answered ++ failed) (left_turn gone) rest ∙ append_assoc (asks_of w.answered) failed (left_turn gone ++ rest)))
+      (asks_askable P w.answered (failed ++ (left_turn gone ++ rest)) met.answered ends)

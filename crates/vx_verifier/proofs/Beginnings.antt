@@ -1,9 +1,10 @@
 -- How the next member of a lane is begun.
-use Rattle.std.proofs.Common.{◌≡◌, ℕ, ◌-◌, ◌<◌, ◌≤◌, Bool, true, false, ◌++◌, ◌∷◌, [], List, Some, None, drop, length, map, refl, ap, ◌∙◌, sym, subst, append_assoc, append-nil, arith}
+use Rattle.std.proofs.Common.{◌≡◌, ℕ, ◌+◌, ◌-◌, ◌<◌, ◌≤◌, Bool, true, false, ◌++◌, ◌∷◌, [], List, Option, Some, None, drop, length, map, refl, ap, ◌∙◌, sym, subst, append_assoc, append-nil, arith}
 use Rattle.vx_ast.specs.Syntax.{Program}
+use Rattle.vx_ast.specs.declared.MemberId.{MemberId}
 use Rattle.vx_smt_meaning.specs.declared.reply.Reply.{Reply}
 use Rattle.vx_rules.specs.Trees.{Answered, walk}
-use Rattle.vx_machine.specs.Runs.{Follows, given, member_tree}
+use Rattle.vx_machine.specs.Runs.{Follows, EachAnswered, given, member_tree}
 use Rattle.vx_machine.specs.declared.machine.Machine.{Machine}
 use Rattle.vx_machine.specs.declared.machine.Phase.TheVariants as phase'
 use Rattle.vx_pool.specs.Events.{with_leaving}
@@ -14,7 +15,7 @@ use Rattle.vx_verifier.specs.declared.members.Stage.{Stage}
 use Rattle.vx_verifier.specs.declared.members.Stage.TheVariants as stage'
 use Rattle.vx_verifier.specs.Headline.{members_of}
 use Rattle.vx_verifier.specs.Lines.{lines_from}
-use Rattle.vx_verifier.specs.Members.{AreRuns, Begins, GoesTo, IsMember, IsOpenAt, answers_of, every, is_ended, open_in, runs_events, some_list}
+use Rattle.vx_verifier.specs.Members.{AreRuns, Begins, GoesTo, IsMember, IsOpenAt, answers_of, every, is_ended, left_at, open_in, runs_events, so_far, some_list, under_way}
 use Rattle.vx_verifier.proofs.Walks.{walk_extends}
 
 -- a machine that was started, and did nothing yet
@@ -69,7 +70,7 @@ module _ (p : Program) (jobs lane next skip : ℕ) (runs : List MemberRun) (repl
         fewer = omega arith;
       }
 
-  pub begins_end : AreRuns p lane 0 0 runs replies → Behind next skip ≡ some_list None ++ Behind next' skip' → Behind next' skip' ≡ []
+  pub begins_end : AreRuns p lane 0 runs replies → Behind next skip ≡ some_list None ++ Behind next' skip' → Behind next' skip' ≡ []
       → Begins p jobs lane next skip runs replies next' skip' runs replies stage'.Ended step.End
   begins_end are dealt over = record {
     at = tt;

@@ -26,13 +26,13 @@ module _ (p : Program) (jobs lane next skip : ℕ) (runs : List MemberRun) (repl
   back P d dealt holds = subst (λ (l : ℕ). P l runs replies) dealt.own (subst (λ (rs : List MemberRun). P lane' rs replies) dealt.runs_are (subst (λ (rs : List Reply). P lane' runs' rs) dealt.replies_are holds))
 
   -- the runs are as they were
-  pub runs_still : (d : Option ℕ) → Dealt p jobs lane next skip runs replies d lane' next' skip' runs' replies' → AreRuns p lane 0 0 runs replies → AreRuns p lane' 0 0 runs' replies'
+  pub runs_still : (d : Option ℕ) → Dealt p jobs lane next skip runs replies d lane' next' skip' runs' replies' → AreRuns p lane 0 runs replies → AreRuns p lane' 0 runs' replies'
   runs_still d dealt are =
-      subst (λ (l : ℕ). AreRuns p l 0 0 runs' replies') (sym dealt.own)
-      (subst (λ (rs : List MemberRun). AreRuns p lane 0 0 rs replies') (sym dealt.runs_are) (subst (λ (rs : List Reply). AreRuns p lane 0 0 runs rs) (sym dealt.replies_are) are))
+      subst (λ (l : ℕ). AreRuns p l 0 runs' replies') (sym dealt.own)
+      (subst (λ (rs : List MemberRun). AreRuns p lane 0 rs replies') (sym dealt.runs_are) (subst (λ (rs : List Reply). AreRuns p lane 0 runs rs) (sym dealt.replies_are) are))
 
   -- no member is left
-  pub begun_none : Dealt p jobs lane next skip runs replies None lane' next' skip' runs' replies' → every jobs skip' (lines_from next' (drop next' p)) ≡ [] → AreRuns p lane 0 0 runs replies
+  pub begun_none : Dealt p jobs lane next skip runs replies None lane' next' skip' runs' replies' → every jobs skip' (lines_from next' (drop next' p)) ≡ [] → AreRuns p lane 0 runs replies
       → Begins p jobs lane next skip runs replies next' skip' runs' replies' stage'.Ended step.End
   begun_none dealt over are =
       subst (λ (rs : List MemberRun). Begins p jobs lane next skip runs replies next' skip' rs replies' stage'.Ended step.End) (sym dealt.runs_are)

@@ -1,5 +1,5 @@
 -- What a call of a worker tells, from what its step tells.
-use Rattle.std.proofs.Common.{◌≡◌, ℕ, ◌+◌, ◌<◌, ◌≤◌, true, false, ◌++◌, ◌∷◌, [], List, Option, Some, None, Result, Ok, Err, IfOk, OnErr, is_some, length, refl, ap, ◌∙◌, sym, subst, append-nil, arith}
+use Rattle.std.proofs.Common.{◌≡◌, ℕ, ◌+◌, ◌-◌, ◌<◌, ◌≤◌, Bool, true, false, ◌++◌, ◌∷◌, [], List, Option, Some, None, Result, Ok, Err, IfOk, OnErr, is_some, length, refl, ap, ◌∙◌, sym, subst, append-nil, arith}
 use Rattle.vx_ast.specs.Syntax.{Program}
 use Rattle.vx_smt_meaning.specs.declared.reply.Reply.{Reply}
 use Rattle.vx_rules.specs.Trees.{walk}
@@ -14,7 +14,7 @@ use Rattle.vx_report.specs.declared.run.MemberRun.{MemberRun}
 use Rattle.vx_report.specs.declared.run.Verdict.TheVariants as verdict
 use Rattle.vx_verifier.specs.declared.members.Stage.{Stage}
 use Rattle.vx_verifier.specs.declared.members.Stage.TheVariants as stage'
-use Rattle.vx_verifier.specs.Members.{Begins, GoesTo, IsWorking, answers_of, asked_at, child_behind, first_behind, is_spent, left_at, open_in, run_of, runs_events, so_far}
+use Rattle.vx_verifier.specs.Members.{Begins, GoesTo, IsMember, IsWorking, answers_of, asked_at, is_spent, left_at, open_in, run_of, runs_events, so_far}
 use Rattle.vx_verifier.proofs.Keeping.{no_answer, working_begun, working_gone, working_lost}
 use Rattle.vx_verifier.proofs.Working.{Loses, loses}
 
@@ -122,11 +122,11 @@ awaits_of old m asked is = sym (open_awaits m.phase) ∙ (sym (ap (λ (s : Stage
 
 -- the machine's question was lost, and the member put
 pub lost_by : (p : Program) (jobs lane next skip : ℕ) (runs : List MemberRun) (replies : List Reply) (m : Machine) (x : Cause) (runs' : List MemberRun) (replies' : List Reply)
-    → IsWorking p jobs lane next skip runs replies (stage'.Asked m) → runs' ≡ runs ++ run_of lane (child_behind 0 runs) (first_behind 0 runs) m (verdict.Fault x) ∷ [] → replies' ≡ replies ++ m.replies.items
+    → IsWorking p jobs lane next skip runs replies (stage'.Asked m) → runs' ≡ runs ++ run_of lane (length replies) m (verdict.Fault x) ∷ [] → replies' ≡ replies ++ m.replies.items
     → Loses p lane runs replies m x runs' replies'
 lost_by p jobs lane next skip runs replies m x runs' replies' w run own =
     subst (λ (rs : List MemberRun). Loses p lane runs replies m x rs replies') (sym run)
-    (subst (λ (rs : List Reply). Loses p lane runs replies m x (runs ++ run_of lane (child_behind 0 runs) (first_behind 0 runs) m (verdict.Fault x) ∷ []) rs) (sym own)
+    (subst (λ (rs : List Reply). Loses p lane runs replies m x (runs ++ run_of lane (length replies) m (verdict.Fault x) ∷ []) rs) (sym own)
     (loses p lane runs replies m x w.at.0 w.at.1 w.runs_are))
 
 pub fewer_lost : (k k' : ℕ) (old : Stage) (m : Machine) → old ≡ stage'.Asked m → k' ≡ k → left_at k stage'.Between ≤ left_at k (stage'.Asked m) → left_at k' stage'.Between ≤ left_at k old

@@ -1,5 +1,5 @@
 -- Of the runs of a program's members: those that a member leads to, and what follows where all of these passed.
-use Rattle.std.proofs.Common.{◌≡◌, inl, inr, ◌⊎◌, ℕ, zero, suc, ◌+◌, nat_eq, Bool, true, false, cond, ◌∷◌, [], List, Option, Some, None, length, slice_get, refl, ap, ◌∙◌, sym, subst, arith, eq-eqb, eqb-true}
+use Rattle.std.proofs.Common.{◌≡◌, inl, inr, ◌⊎◌, ℕ, zero, suc, ◌+◌, ◌||◌, nat_eq, Bool, true, false, cond, ◌++◌, ◌∷◌, [], List, Option, Some, None, length, take, drop, slice_get, refl, ap, ◌∙◌, sym, subst, append_assoc, length-append, arith, eq-eqb, eqb-true}
 use Rattle.std.specs.Prelude.{if◌then◌else◌}
 use Rattle.vx_ast.specs.declared.MemberId.{MemberId}
 use Rattle.vx_ast.specs.declared.Place.{Place}
@@ -14,6 +14,7 @@ use Rattle.vx_report.specs.declared.run.Cause.{Cause}
 use Rattle.vx_report.specs.declared.run.Verdict.{Verdict}
 use Rattle.vx_report.specs.declared.run.Verdict.TheVariants as verdict
 use Rattle.vx_report.specs.declared.run.MemberRun.{MemberRun}
+use Rattle.vx_report.specs.Reports.{is_faulted}
 use Rattle.vx_rules.specs.Trees.{Ending as Ends, Passed, Failed, walk}
 use Rattle.vx_rules.specs.declared.code.Code.{Code}
 use Rattle.vx_rules.specs.Codes.{code}
@@ -26,9 +27,10 @@ use Rattle.vx_settled.proofs.TypedNames.{same_is}
 use Rattle.vx_closure.specs.Leads.{LeadsTo}
 use Rattle.vx_resting.specs.Resting.{has_passed, HoldsUp, IsFirst, IsHeldUpAs, AreRested}
 use Rattle.vx_verifier.specs.Sequences.{IsIn, AreChecksOf, replies_to, IsRight}
-use Rattle.vx_verifier.specs.Causes.{HasCauseOf, faults_by, is_own, one_if}
+use Rattle.vx_verifier.specs.Causes.{HasCauseOf}
 use Rattle.vx_verifier.specs.Lines.{has_line, lines_from, lines}
-use Rattle.vx_verifier.specs.Headline.{IsWhole, NeverFails, IsVerdictOf, IsTold, AreTold, Under, AreSound, members_of, next_child, next_first, part, sequence_of, walk_of}
+use Rattle.vx_verifier.specs.Headline.{IsWhole, NeverFails, IsVerdictOf, IsTold, AreTold, Under, AreSound, members_of, sequence_of, walk_of}
+use Rattle.vx_verifier.proofs.Runs.{take_front, drop_front}
 use Rattle.vx_verifier.proofs.Sequences.{each_in, in_each, all_right}
 
 -- ---- the first run that holds a member up
@@ -46,8 +48,14 @@ none_is P (r ∷ runs) q (inr later) (inr inside) holds = none_is P runs q later
 
 -- ---- the checks of a run among all
 
+own_sequence : (r : MemberRun) (all : (lane : ℕ) → List Check) (done own rest : List Check) → all r.lane ≡ done ++ (own ++ rest) → r.first ≡ length done → length own ≡ r.checks → sequence_of r all ≡ own
+own_sequence r all done own rest is first count =
+    ap (λ x. take r.checks (drop r.first x)) is
+    ∙ (ap (λ k. take k (drop r.first (done ++ (own ++ rest)))) (sym count)
+    ∙ (ap (λ k. take (length own) (drop k (done ++ (own ++ rest)))) first ∙ (ap (take (length own)) (drop_front done (own ++ rest)) ∙ take_front own rest)))
+
 -- a run's checks are its walk's, and where its verdict says that the walk passed, or failed by a sat, it did
-pub record IsWalked (p : Program) (all : (lane child : ℕ) → List Check) (r : MemberRun) : Type 0 where
+pub record IsWalked (p : Program) (all : (lane : ℕ) → List Check) (r : MemberRun) : Type 0 where
   pub checks : AreChecksOf (walk_of p r.member.0 (sequence_of r all)).answered (sequence_of r all)
   pub passed : has_passed r.verdict ≡ true → (walk_of p r.member.0 (sequence_of r all)).ending ≡ Passed
   pub failed : (at : Place) (c : Code) → r.verdict ≡ verdict.Failed at c Sat → (walk_of p r.member.0 (sequence_of r all)).ending ≡ Failed at (code c) Sat
@@ -59,7 +67,7 @@ passed_by C e asked (verdict.Failed at c r) has passed = (cc)
 passed_by C e asked verdict.Limit has passed = (cc)
 passed_by C e asked (verdict.Fault c) has passed = (cc)
 
-told_walked : (p : Program) (C : Cause → Type 0) (all : (lane child : ℕ) → List Check) (own : List Check) (r : MemberRun) → sequence_of r all ≡ own → IsTold p r.member.0 C own r.verdict → IsWalked p all r
+told_walked : (p : Program) (C : Cause → Type 0) (all : (lane : ℕ) → List Check) (own : List Check) (r : MemberRun) → sequence_of r all ≡ own → IsTold p r.member.0 C own r.verdict → IsWalked p all r
 told_walked p C all own r mine told = record {
   checks = subst (λ cs. AreChecksOf (walk_of p r.member.0 cs).answered cs) (sym mine) told.checks;
   passed = λ has. subst (λ cs. (walk_of p r.member.0 cs).ending ≡ Passed) (sym mine) (passed_by C (walk_of p r.member.0 own).ending (length own) r.verdict told.verdict has);
@@ -67,35 +75,31 @@ told_walked p C all own r mine told = record {
 }
 
 -- so it is with each run of a lane that is told
-module _ (p : Program) (links : List Ending) (f g lane : ℕ) (all : (lane child : ℕ) → List Check) where
+module _ (p : Program) (links : List Ending) (f g lane : ℕ) (all : (lane : ℕ) → List Check) where
   -- the checks of each are its own sequence
   pub record Sequenced (r : MemberRun) : Type 0 where
-    pub link : Option Ending
-    pub faults : ℕ
+    pub lost : Bool
     pub own : List Check
     pub mine : sequence_of r all ≡ own
-    pub told : IsTold p r.member.0 (HasCauseOf link f g faults) own r.verdict
+    pub told : IsTold p r.member.0 (HasCauseOf links f g lost) own r.verdict
 
-  sequenced_by : (faults child first : ℕ) (runs : List MemberRun) → AreTold p links f g lane faults child first runs (all lane) → Each Sequenced runs
-  sequenced_by faults child first [] told = tt
-  sequenced_by faults child first (r ∷ runs) told =
-      let run = told.0 in (
-        record {
-          link = slice_get links child;
-          faults = faults;
-          own = part first r.checks (all lane child);
-          mine = ap (λ k. part k r.checks (all r.lane r.child)) run.first_is
-              ∙ (ap (λ k. part first r.checks (all k r.child)) run.own_lane ∙ ap (λ k. part first r.checks (all lane k)) run.child_is);
-          told = run.told;
-        },
-        sequenced_by (faults + one_if (faults_by is_own r.verdict)) (next_child child r.verdict) (next_first first r.checks r.verdict) runs told.1,
+  sequenced_by : (lost : Bool) (first : ℕ) (runs : List MemberRun) (done checks : List Check) → all lane ≡ done ++ checks → first ≡ length done
+      → AreTold p links f g lane lost first runs checks → Each Sequenced runs
+  sequenced_by lost first [] done checks is place told = tt
+  sequenced_by lost first (r ∷ runs) done checks is place told =
+      let own = told.0 in
+      let whole : all lane ≡ done ++ (own ++ told.1) = is ∙ ap (λ x. done ++ x) told.2 in
+      let mine : sequence_of r all ≡ own = own_sequence r all done own told.1 (ap all told.3.own_lane ∙ whole) (told.3.first_is ∙ place) told.3.count in
+      let longer = length-append done own in (
+        record { lost = lost; own = own; mine = mine; told = told.3.told },
+        sequenced_by (lost || is_faulted r.verdict) (first + length own) runs (done ++ own) told.1 (whole ∙ sym (append_assoc done own told.1)) (omega arith) told.4,
       )
 
-  pub sequenced : (runs : List MemberRun) → AreTold p links f g lane 0 0 0 runs (all lane) → Each Sequenced runs
-  sequenced runs told = sequenced_by 0 0 0 runs told
+  pub sequenced : (runs : List MemberRun) → AreTold p links f g lane false 0 runs (all lane) → Each Sequenced runs
+  sequenced runs told = sequenced_by false 0 runs [] (all lane) refl refl told
 
   pub is_walked : (r : MemberRun) → Sequenced r → IsWalked p all r
-  is_walked r s = told_walked p (HasCauseOf s.link f g s.faults) all s.own r s.mine s.told
+  is_walked r s = told_walked p (HasCauseOf links f g s.lost) all s.own r s.mine s.told
 
 -- ---- members by number
 
@@ -159,17 +163,17 @@ line_in start (m ∷ p) (suc j) x at has =
     later false inside = inside
 
 -- the replies to the checks of the run of this member
-abbrev replies_at : List MemberRun → ((lane child : ℕ) → List Check) → ℕ → List Reply
+abbrev replies_at : List MemberRun → ((lane : ℕ) → List Check) → ℕ → List Reply
 replies_at [] all b = []
 replies_at (r ∷ runs) all b = if nat_eq r.member.0 b then replies_to (sequence_of r all) else replies_at runs all b
 
-pub record RunOf (runs : List MemberRun) (all : (lane child : ℕ) → List Check) (b : ℕ) : Type 0 where
+pub record RunOf (runs : List MemberRun) (all : (lane : ℕ) → List Check) (b : ℕ) : Type 0 where
   pub run : MemberRun
   pub inside : IsIn run runs
   pub member : run.member.0 ≡ b
   pub replies : replies_at runs all b ≡ replies_to (sequence_of run all)
 
-pub run_of : (runs : List MemberRun) (all : (lane child : ℕ) → List Check) (b : ℕ) → IsIn b (members_of runs) → RunOf runs all b
+pub run_of : (runs : List MemberRun) (all : (lane : ℕ) → List Check) (b : ℕ) → IsIn b (members_of runs) → RunOf runs all b
 run_of [] all b inside = absurd inside
 run_of (r ∷ runs) all b inside = go (nat_eq r.member.0 b) refl inside (run_of runs all b)
   where
@@ -189,7 +193,7 @@ run_of (r ∷ runs) all b inside = go (nat_eq r.member.0 b) refl inside (run_of 
         }
 
 -- the replies to the checks of the member of a name
-abbrev replies_by : Program → List MemberRun → ((lane child : ℕ) → List Check) → Name → List Reply
+abbrev replies_by : Program → List MemberRun → ((lane : ℕ) → List Check) → Name → List Reply
 replies_by p runs all y = elim (number_named 0 p y) as (λ o. List Reply) [ None ↦ [] | Some b ↦ replies_at runs all b ]
 
 -- ---- where all that a member leads to passed, it doesn't fail
@@ -201,7 +205,7 @@ passed_or_not v not = go (has_passed v) not
     go true not = refl
     go false not = absurd (not refl)
 
-module _ (p : Program) (all : (lane child : ℕ) → List Check) (runs : List MemberRun) (walked : Each (IsWalked p all) runs) (each : members_of runs ≡ lines p) where
+module _ (p : Program) (all : (lane : ℕ) → List Check) (runs : List MemberRun) (walked : Each (IsWalked p all) runs) (each : members_of runs ≡ lines p) where
   -- a run of a member that the one with number n leads to
   led_passes : (n : ℕ) → IsFirst (HoldsUp p n) runs None → Under (λ own. Each IsRight own) p n runs all
       → (x : Member) → slice_get p n ≡ Some x → (y : Name) (l : Kind) → InClosure p x.name y → member_named p y ≡ Some l → has_line l ≡ true → Passes p y l (replies_by p runs all y)
@@ -236,13 +240,13 @@ module _ (p : Program) (all : (lane child : ℕ) → List Check) (runs : List Me
   led_each n held right x at y (IsFunction h) closed named = led_passes n held right x at y (IsFunction h) closed named refl
   led_each n held right x at y (IsMethod m) closed named = led_passes n held right x at y (IsMethod m) closed named refl
 
-never_fails : MembersAreSound → (p : Program) → IsWhole p → (all : (lane child : ℕ) → List Check) (runs : List MemberRun) → Each (IsWalked p all) runs → members_of runs ≡ lines p
+never_fails : MembersAreSound → (p : Program) → IsWhole p → (all : (lane : ℕ) → List Check) (runs : List MemberRun) → Each (IsWalked p all) runs → members_of runs ≡ lines p
     → (n : ℕ) → IsFirst (HoldsUp p n) runs None → Under (λ own. Each IsRight own) p n runs all → NeverFails p n
 never_fails law p whole all runs walked each n held right x at fails =
     law p x.name x.kind (replies_by p runs all) whole.typed (whole.typed.names n x at)
     (λ y l closed named. led_each p all runs walked each n held right x at y l closed named) fails
 
-pub sound : MembersAreSound → (p : Program) → IsWhole p → (all : (lane child : ℕ) → List Check) (runs : List MemberRun) → Each (IsWalked p all) runs → members_of runs ≡ lines p → AreRested p runs → AreSound p runs all
+pub sound : MembersAreSound → (p : Program) → IsWhole p → (all : (lane : ℕ) → List Check) (runs : List MemberRun) → Each (IsWalked p all) runs → members_of runs ≡ lines p → AreRested p runs → AreSound p runs all
 sound law p whole all runs walked each rested = in_each (λ (r : MemberRun). r.verdict ≡ verdict.Verified → Under (λ own. Each IsRight own) p r.member.0 runs all → NeverFails p r.member.0) runs (λ r inside is right.
     let held : IsFirst (HoldsUp p r.member.0) runs None = subst (IsHeldUpAs p r.member.0 runs) is (each_in (λ (q : MemberRun). IsHeldUpAs p q.member.0 runs q.verdict) runs r rested inside) in
     never_fails law p whole all runs walked each r.member.0 held right)

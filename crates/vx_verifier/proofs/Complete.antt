@@ -1,5 +1,5 @@
 -- What follows where no count rose, all replies were lawful, or all were unsat.
-use Rattle.std.proofs.Common.{◌≡◌, ℕ, zero, suc, ◌+◌, ◌<◌, Bool, true, false, Some, slice_get, ◌∷◌, [], List, length, refl, subst, arith}
+use Rattle.std.proofs.Common.{◌≡◌, ℕ, zero, suc, ◌+◌, ◌<◌, ◌||◌, Bool, true, false, Some, slice_get, ◌++◌, ◌∷◌, [], List, length, refl, ap, ◌∙◌, sym, subst, append_assoc, length-append, arith}
 use Rattle.vx_ast.specs.declared.Place.{Place}
 use Rattle.vx_ast.specs.Syntax.{Program}
 use Rattle.vx_terms.specs.Interpretations.{Each}
@@ -17,7 +17,7 @@ use Rattle.vx_rules.specs.Trees.{Ending as Ends, Tree, End, Impossible, On, Step
 use Rattle.vx_rules.specs.Codes.{code}
 use Rattle.vx_machine.specs.Runs.{member_tree}
 use Rattle.vx_verifier.specs.Sequences.{AllUnsat, replies_to}
-use Rattle.vx_verifier.specs.Causes.{LinkHas, IsUnlawful, IsLawful, HasCauseOf, faults_by, is_own, one_if}
+use Rattle.vx_verifier.specs.Causes.{LinkHas, IsUnlawful, IsLawful, HasCauseOf}
 use Rattle.vx_ends.specs.Causes.{Rose}
 use Rattle.vx_report.specs.Reports.{AreNamed}
 use Rattle.vx_ast.specs.Syntax.{Member}
@@ -28,32 +28,21 @@ use Rattle.vx_resting.specs.Resting.{has_passed, HoldsUp, IsHeldUpAs, AreRested}
 use Rattle.vx_verifier.specs.Sequences.{IsIn}
 use Rattle.vx_verifier.proofs.Sequences.{each_in, in_each}
 use Rattle.vx_verifier.proofs.Closures.{Sequenced, first_is}
-use Rattle.vx_verifier.specs.Headline.{IsVerdictOf, AreTold, HasNoFault, Under, next_child, next_first, part, sequence_of, walk_of}
+use Rattle.vx_verifier.specs.Headline.{IsVerdictOf, AreTold, HasNoFault, Under, sequence_of, walk_of}
 
 -- ---- no cause of a fault
 
-no_such : (links : List Ending) (child : ℕ) (P Q : Ending → Type 0) → Each Q links → ((e : Ending) → P e → Q e → ⊥) → LinkHas (slice_get links child) P → ⊥
-no_such [] child P Q each excludes has = has
-no_such (e ∷ links) zero P Q each excludes has = excludes e has each.0
-no_such (e ∷ links) (suc child) P Q each excludes has = no_such links child P Q each.1 excludes has
+no_such : (links : List Ending) (P Q : Ending → Type 0) → Each Q links → ((e : Ending) → P e → Q e → ⊥) → LinkHas links P → ⊥
+no_such links P Q each excludes has = excludes has.0 has.2 (subst (Each Q) has.1 each).0
 
 not_above : (n : ℕ) → 0 < n → n ≡ 0 → ⊥
 not_above n above none = omega arith
 
-no_cause : (links : List Ending) (child f g : ℕ) → (Rose f g → ⊥) → Each (λ (e : Ending). e.faults ≡ 0) links → Each (λ (e : Ending). IsLawful e.dialogue) links → (x : Cause)
-    → HasCauseOf (slice_get links child) f g 0 x → ⊥
-no_cause links child f g calm fine lawful cause.Pipe has = no_such links child (λ e. 0 < e.faults) (λ e. e.faults ≡ 0) fine (λ e above none. not_above e.faults above none) has.1
-no_cause links child f g calm fine lawful cause.Start has = calm has.1
-no_cause links child f g calm fine lawful cause.Spent has = cc
-no_cause links child f g calm fine lawful (cause.Reply kept) has =
-    no_such links child (λ e. IsUnlawful e.dialogue kept) (λ e. IsLawful e.dialogue) lawful (λ e unlawful lawful'. lawful' kept unlawful) has.1
-
-no_own : (v : Verdict) → is_faulted v ≡ false → faults_by is_own v ≡ false
-no_own verdict.Verified fine = refl
-no_own (verdict.Failed place c r) fine = refl
-no_own (verdict.Rests m) fine = refl
-no_own verdict.Limit fine = refl
-no_own (verdict.Fault x) fine = cc
+no_cause : (links : List Ending) (f g : ℕ) → (Rose f g → ⊥) → Each (λ (e : Ending). e.faults ≡ 0) links → Each (λ (e : Ending). IsLawful e.dialogue) links → (x : Cause) → HasCauseOf links f g false x → ⊥
+no_cause links f g calm fine lawful cause.Pipe has = no_such links (λ e. 0 < e.faults) (λ e. e.faults ≡ 0) fine (λ e above none. not_above e.faults above none) has.1
+no_cause links f g calm fine lawful cause.Start has = calm has.1
+no_cause links f g calm fine lawful cause.Spent has = cc
+no_cause links f g calm fine lawful (cause.Reply kept) has = no_such links (λ e. IsUnlawful e.dialogue kept) (λ e. IsLawful e.dialogue) lawful (λ e unlawful lawful'. lawful' kept unlawful) has.1
 
 not_faulted : (C : Cause → Type 0) → ((x : Cause) → C x → ⊥) → (e : Ends) (asked : ℕ) (v : Verdict) → IsVerdictOf C e asked v → is_faulted v ≡ false
 not_faulted C none e asked verdict.Verified has = refl
@@ -63,15 +52,13 @@ not_faulted C none e asked verdict.Limit has = refl
 not_faulted C none e asked (verdict.Fault x) has = absurd (none x has.0)
 
 module _ (p : Program) (links : List Ending) (f g lane : ℕ) (calm : Rose f g → ⊥) (fine : Each (λ (e : Ending). e.faults ≡ 0) links) (lawful : Each (λ (e : Ending). IsLawful e.dialogue) links) where
-  pub none_faulted : (child first : ℕ) (runs : List MemberRun) (checks : ℕ → List Check) → AreTold p links f g lane 0 child first runs checks → HasNoFault runs
-  none_faulted child first [] checks told = tt
-  none_faulted child first (r ∷ runs) checks told =
-      let none = no_cause links child f g calm fine lawful in
-      let own = part first r.checks (checks child) in
-      let here = not_faulted (HasCauseOf (slice_get links child) f g 0) none (walk_of p r.member.0 own).ending (length own) r.verdict told.0.told.verdict in (
+  pub none_faulted : (first : ℕ) (runs : List MemberRun) (checks : List Check) → AreTold p links f g lane false first runs checks → HasNoFault runs
+  none_faulted first [] checks told = tt
+  none_faulted first (r ∷ runs) checks told =
+      let none = no_cause links f g calm fine lawful in
+      let here = not_faulted (HasCauseOf links f g false) none (walk_of p r.member.0 told.0).ending (length told.0) r.verdict told.3.told.verdict in (
         here,
-        none_faulted (next_child child r.verdict) (next_first first r.checks r.verdict) runs checks
-            (subst (λ (b : Bool). AreTold p links f g lane (0 + one_if b) (next_child child r.verdict) (next_first first r.checks r.verdict) runs checks) (no_own r.verdict here) told.1),
+        none_faulted (first + length told.0) runs told.1 (subst (λ b. AreTold p links f g lane b (first + length told.0) runs told.1) here told.4),
       )
 
 -- ---- by unsat alone no walk fails
@@ -120,10 +107,10 @@ by_unsat C e asked (verdict.Fault x) has never fine below = cc
 
 -- ---- a run whose checks were all answered unsat passed
 
-pub has_passed_by : (p : Program) (links : List Ending) (f g lane : ℕ) (all : (lane child : ℕ) → List Check) (r : MemberRun) → Sequenced p links f g lane all r → is_faulted r.verdict ≡ false
+pub has_passed_by : (p : Program) (links : List Ending) (f g lane : ℕ) (all : (lane : ℕ) → List Check) (r : MemberRun) → Sequenced p links f g lane all r → is_faulted r.verdict ≡ false
     → (r.verdict ≡ verdict.Limit → ⊥) → AllUnsat (sequence_of r all) → has_passed r.verdict ≡ true
 has_passed_by p links f g lane all r s fine below unsat =
-    by_unsat (HasCauseOf s.link f g s.faults) (walk_of p r.member.0 s.own).ending (length s.own) r.verdict s.told.verdict
+    by_unsat (HasCauseOf links f g s.lost) (walk_of p r.member.0 s.own).ending (length s.own) r.verdict s.told.verdict
     (through (member_tree p r.member.0) passed passed_never (replies_to s.own) (unsat_replies s.own (subst AllUnsat s.mine unsat))) fine below
 
 -- ---- where nothing holds a member up, it is verified
@@ -151,7 +138,7 @@ named_each : (p : Program) (runs : List MemberRun) → AreNamed p runs → Each 
 named_each p [] named = tt
 named_each p (r ∷ runs) named = (named zero r (omega arith), named_each p runs (λ n d below. named (suc n) d (let k = below in omega arith)))
 
-module _ (p : Program) (all : (lane child : ℕ) → List Check) (runs : List MemberRun) (rested : AreRested p runs) (named : AreNamed p runs)
+module _ (p : Program) (all : (lane : ℕ) → List Check) (runs : List MemberRun) (rested : AreRested p runs) (named : AreNamed p runs)
     (passing : Each (λ (r : MemberRun). AllUnsat (sequence_of r all) → has_passed r.verdict ≡ true) runs) where
   passes : (n : ℕ) → Under AllUnsat p n runs all → (q : MemberRun) → IsIn q runs → LeadsTo p n q.member.0 → has_passed q.verdict ≡ true
   passes n unsat q inside leads =
@@ -168,7 +155,7 @@ module _ (p : Program) (all : (lane child : ℕ) → List Check) (runs : List Me
       not_both found.0.verdict (passes n unsat found.0 found.1 found.2.0) found.2.1)
 
 -- so each member is verified
-pub all_verified : (p : Program) (all : (lane child : ℕ) → List Check) (runs : List MemberRun) → AreRested p runs → AreNamed p runs
+pub all_verified : (p : Program) (all : (lane : ℕ) → List Check) (runs : List MemberRun) → AreRested p runs → AreNamed p runs
     → Each (λ (r : MemberRun). AllUnsat (sequence_of r all) → has_passed r.verdict ≡ true) runs → Each (λ (r : MemberRun). Under AllUnsat p r.member.0 runs all → r.verdict ≡ verdict.Verified) runs
 all_verified p all runs rested named passing =
     in_each (λ (r : MemberRun). Under AllUnsat p r.member.0 runs all → r.verdict ≡ verdict.Verified) runs (λ r inside unsat. is_verified p all runs rested named passing r inside unsat)

@@ -1,5 +1,5 @@
 -- From lanes that are through to runs in file order.
-use Rattle.std.proofs.Common.{◌≡◌, ℕ, zero, suc, ◌<◌, true, false, ◌++◌, ◌∷◌, [], List, Option, Some, Result, Ok, Err, IfOk, length, map, drop, reverse, slice_get, refl, ap, ◌∙◌, sym, subst, append-nil, arith}
+use Rattle.std.proofs.Common.{◌≡◌, ℕ, zero, suc, ◌+◌, ◌<◌, true, false, ◌++◌, ◌∷◌, [], List, Option, Some, Result, Ok, Err, IfOk, length, map, drop, reverse, slice_get, refl, ap, ◌∙◌, sym, subst, append-nil, arith}
 use Rattle.std.proofs.lemmas.List.{length-map}
 use Rattle.std.specs.declared.vec.Vec.{Vec}
 use Rattle.std.specs.declared.alloc.Global.{Global}
@@ -15,7 +15,7 @@ use Rattle.vx_verifier.specs.declared.members.Members.{Members}
 use Rattle.vx_verifier.specs.declared.members.Stage.{Stage}
 use Rattle.vx_verifier.specs.declared.members.Stage.TheVariants as stage'
 use Rattle.vx_verifier.specs.Dealt.{IsDealt, runs_in}
-use Rattle.vx_verifier.specs.Headline.{members_of, next_child, next_first}
+use Rattle.vx_verifier.specs.Headline.{members_of}
 use Rattle.vx_verifier.specs.Lanes.{IsOver, IsToldOf, TellsOf}
 use Rattle.vx_verifier.specs.Lines.{lines}
 use Rattle.vx_verifier.specs.Members.{AreRuns, IsWorking, every, is_ended, is_spent, runs_events, so_far, under_way}
@@ -76,9 +76,9 @@ none_under_way (stage'.Asked m) is = cc
 none_under_way stage'.Between is = refl
 none_under_way stage'.Spent is = refl
 
-own_lanes : (p : Program) (lane child first : ℕ) (runs : List MemberRun) (replies : List Reply) → AreRuns p lane child first runs replies → Each (λ (r : MemberRun). r.lane ≡ lane) runs
-own_lanes p lane child first [] replies are = tt
-own_lanes p lane child first (r ∷ runs) replies are = (are.0.own_lane, own_lanes p lane (next_child child r.verdict) (next_first first r.checks r.verdict) runs (drop r.checks replies) are.1)
+own_lanes : (p : Program) (lane first : ℕ) (runs : List MemberRun) (replies : List Reply) → AreRuns p lane first runs replies → Each (λ (r : MemberRun). r.lane ≡ lane) runs
+own_lanes p lane first [] replies are = tt
+own_lanes p lane first (r ∷ runs) replies are = (are.0.own_lane, own_lanes p lane (first + r.checks) runs (drop r.checks replies) are.1)
 
 module _ {K L : Type 0} (dialogue : L → List Piece) (o : Outset) (h g : Hub) where
   -- the worker is at its end, and its talker tells its events
@@ -104,7 +104,7 @@ module _ {K L : Type 0} (dialogue : L → List Piece) (o : Outset) (h g : Hub) w
       let all : events ++ so_far o.program w.stage ≡ events = ap (λ l. events ++ l) (none_so_far o.program w.stage through.ended) ∙ append-nil events in
       record {
         replies = w.replies.items;
-        runs_are = subst (λ k. AreRuns o.program k 0 0 w.runs.items w.replies.items) through.same through.working.runs_are;
+        runs_are = subst (λ k. AreRuns o.program k 0 w.runs.items w.replies.items) through.same through.working.runs_are;
         told = told events (subst (TellsOf dialogue o t.lane t.child h) all through.told);
         members = members_are w t through ∙ ap (λ k. every o.jobs k (lines o.program)) through.same;
       }
@@ -123,7 +123,7 @@ module _ {K L : Type 0} (dialogue : L → List Piece) (o : Outset) (h g : Hub) w
             let t = through i l.0 l.1 in
             let lane_is = t.same ∙ numbered i l.0 l.1 in
             subst (Each (λ (r : MemberRun). r.lane ≡ i)) l.2
-            (subst (λ k. Each (λ (r : MemberRun). r.lane ≡ k) l.0.0.runs.items) lane_is (own_lanes o.program l.0.0.lane 0 0 l.0.0.runs.items l.0.0.replies.items t.working.runs_are));
+            (subst (λ k. Each (λ (r : MemberRun). r.lane ≡ k) l.0.0.runs.items) lane_is (own_lanes o.program l.0.0.lane 0 l.0.0.runs.items l.0.0.replies.items t.working.runs_are));
         members = λ i pile is.
             let l = at_pile i pile is in
             let t = through i l.0 l.1 in

@@ -1,10 +1,11 @@
 -- What is promised of all lanes, from what is so of each that is over.
-use Rattle.std.proofs.Common.{◌≡◌, ◌⊎◌, ℕ, zero, suc, ◌+◌, ◌-◌, ◌^◌, ◌<◌, ◌≤◌, nat_lt, Bool, true, false, IsTrue, ◌++◌, ◌∷◌, [], List, length, map, slice_get, if◌then◌else◌, refl, ap, ◌∙◌, sym, subst, append-nil, inl, inr, arith}
-use Rattle.vx_ast.specs.Syntax.{Program}
+use Rattle.std.proofs.Common.{◌≡◌, ◌⊎◌, ℕ, zero, suc, ◌+◌, ◌-◌, ◌^◌, ◌<◌, ◌≤◌, Bool, true, false, IsTrue, ◌++◌, ◌∷◌, [], List, length, map, if◌then◌else◌, refl, ap, ◌∙◌, sym, subst, append-nil, inl, inr, arith}
+use Rattle.vx_ast.specs.Syntax.{Program, Member}
 use Rattle.vx_terms.specs.Interpretations.{Each}
 use Rattle.vx_smt_meaning.specs.Dialogues.{Check}
 use Rattle.vx_smt_meaning.specs.declared.reply.Reply.{Reply}
-use Rattle.vx_ends.specs.Causes.{Rose, RoseBy}
+use Rattle.vx_ends.specs.Causes.{Rose}
+use Rattle.vx_ends.specs.declared.piece.Start.{Start}
 use Rattle.vx_ends.specs.declared.piece.Ending.{Ending}
 use Rattle.vx_dialogue.specs.Askable.{AreTurns}
 use Rattle.vx_dialogue.specs.Scripts.{ScopedTurn, plain}
@@ -17,29 +18,33 @@ use Rattle.vx_law.specs.Law.{MembersAreSound}
 use Rattle.vx_real.specs.Law.{RealLaw}
 use Rattle.vx_runs.specs.Law.{WholeRunLaw}
 use Rattle.vx_resting.specs.Resting.{AreLater, AreRested, NoneRests, has_passed}
-use Rattle.vx_verifier.specs.Causes.{IsLawful, NoCountRose, is_start}
-use Rattle.vx_verifier.specs.Dealt.{runs_in, runs_of, links_in, starts_in, starts_of, Starts}
-use Rattle.vx_verifier.specs.Headline.{IsWhole, IsRecorded, turns_of, is_lost_in, members_of, next_child, next_first, some_ask, sequence_of, IsChild, IsLane, Headline}
-use Rattle.vx_verifier.specs.Lanes.{AreCaused, IsChildOf, answered_in, events_of, has_lost, IsOver}
+use Rattle.vx_verifier.specs.Causes.{IsLawful, NoCountRose}
+use Rattle.vx_verifier.specs.Dealt.{IsDealt, runs_in, links_in, starts_in, started_where, Starts}
+use Rattle.vx_verifier.specs.Headline.{IsWhole, IsRecorded, turns_of, lost_after, members_of, some_ask, sequence_of, IsLane, Headline}
+use Rattle.vx_verifier.specs.Lanes.{AreCaused, Records, turns_in, has_lost, has_asked, IsBack, IsOver, IsToldOf}
 use Rattle.vx_verifier.specs.Lines.{has_line, lines_from, lines}
-use Rattle.vx_verifier.specs.Members.{AreRuns, runs_events}
+use Rattle.vx_verifier.specs.Members.{IsRun, AreRuns, runs_events}
 use Rattle.vx_verifier.specs.Outsets.{Hub, Outset, Later}
-use Rattle.vx_verifier.specs.Sequences.{AreChecksOf, IsIn, AllUnsat}
+use Rattle.vx_verifier.specs.Sequences.{IsIn, AllUnsat}
 use Rattle.vx_verifier.specs.Verifying.{AreBack, AreOver}
-use Rattle.vx_verifier.proofs.Askable.{AllAsk, turns_told}
+use Rattle.vx_verifier.proofs.Askable.{AllAsk, turns_ask}
 use Rattle.vx_verifier.proofs.Closures.{Sequenced, sequenced, IsWalked, is_walked, sound}
 use Rattle.vx_verifier.proofs.Complete.{none_faulted, has_passed_by, all_verified}
-use Rattle.vx_verifier.proofs.Dealt.{in_own, dealt_below, dealt_later, own_later, each_link, all_links}
+use Rattle.vx_verifier.proofs.Dealt.{each_own, in_own, dealt_below, dealt_later, own_later, each_link, all_links}
 use Rattle.vx_verifier.proofs.Fit.{well_formed}
 use Rattle.vx_verifier.proofs.FunctionSymbols.{are_symbols}
-use Rattle.vx_verifier.proofs.Numbered.{asked_rests, children_later, count_rests, lost_rests}
 use Rattle.vx_verifier.proofs.Real.{real}
-use Rattle.vx_verifier.proofs.Rested.{all_told, turns_rest, members_rest, named_rest}
-use Rattle.vx_verifier.proofs.Runs.{cancelled, decide, zero_on}
+use Rattle.vx_verifier.proofs.Rested.{all_told, turns_rest, lost_rests, members_rest, named_rest}
+use Rattle.vx_verifier.proofs.Runs.{cancelled, zero_on}
 use Rattle.vx_verifier.proofs.Sequences.{each_in, in_each}
 use Rattle.vx_verifier.proofs.Sorted.{IsFine, script_sorted}
-use Rattle.vx_verifier.proofs.Told.{count_runs, told_runs, turns_runs, lost_runs, asked_runs, touched_runs}
+use Rattle.vx_verifier.proofs.Told.{told_runs, turns_runs, lost_runs, asked_runs}
 use Rattle.vx_verifier.proofs.WholeRuns.{keeps_whole_runs}
+
+pub decide : (a b : ℕ) → (a < b) ⊎ (b ≤ a)
+decide a zero = inr (omega arith)
+decide zero (suc b) = inl (omega arith)
+decide (suc a) (suc b) = elim (decide a b) [ inl h ↦ inl (omega arith) | inr h ↦ inr (omega arith) ]
 
 not_both : (a b : ℕ) → a < b → b ≤ a → ⊥
 not_both a b less more = omega arith
@@ -66,23 +71,23 @@ each_named p (r ∷ runs) all (suc n) d below = each_named p runs all.1 n d (let
 pub named_lines : (p : Program) (runs : List MemberRun) → members_of runs ≡ lines p → AreNamed p runs
 named_lines p runs is = each_named p runs (subst (Each (λ (k : ℕ). k < length p)) (sym is) (subst (λ n. Each (λ (k : ℕ). k < n) (lines p)) (sym (zero_on (length p))) (lines_below 0 p)))
 
-alone_runs : (p : Program) (lane child first : ℕ) (runs : List MemberRun) (replies : List Reply) → AreRuns p lane child first runs replies → Each (λ (r : MemberRun). is_resting r.verdict ≡ false) runs
-alone_runs p lane child first [] replies are = tt
-alone_runs p lane child first (r ∷ runs) replies are = (are.0.alone, alone_runs p lane (next_child child r.verdict) (next_first first r.checks r.verdict) runs _ are.1)
+alone_runs : (p : Program) (lane first : ℕ) (runs : List MemberRun) (replies : List Reply) → AreRuns p lane first runs replies → Each (λ (r : MemberRun). is_resting r.verdict ≡ false) runs
+alone_runs p lane first [] replies are = tt
+alone_runs p lane first (r ∷ runs) replies are = (are.0.alone, alone_runs p lane (first + r.checks) runs _ are.1)
 
 pub none_rests : (o : Outset) (h : Hub) (runs : List MemberRun) → 0 < o.jobs → AreOver o h runs → NoneRests runs
 none_rests o h runs some over =
     let below = dealt_below o.jobs 0 runs some over.dealt in
     in_each (λ (r : MemberRun). is_resting r.verdict ≡ false) runs (λ r inside.
     let lane = over.lanes r.lane (each_in (λ (q : MemberRun). q.lane < o.jobs) runs r below inside) in
-    each_in (λ (q : MemberRun). is_resting q.verdict ≡ false) (runs_in r.lane runs) r (alone_runs o.program r.lane 0 0 (runs_in r.lane runs) lane.replies lane.runs_are) (in_own r runs inside))
+    each_in (λ (q : MemberRun). is_resting q.verdict ≡ false) (runs_in r.lane runs) r (alone_runs o.program r.lane 0 (runs_in r.lane runs) lane.replies lane.runs_are) (in_own r runs inside))
 
 -- ---- one lane
 
 -- what a lane says, once its members rest
 record Says (p : Program) (links : List Ending) (f g lane : ℕ) (runs : List MemberRun) : Type 0 where
-  turns : (child : ℕ) → List ScopedTurn
-  checks : (child : ℕ) → List Check
+  turns : List ScopedTurn
+  checks : List Check
   is : IsLane p links f g lane turns checks runs
 
 says : (o : Outset) (h : Hub) (since : List Ending) → h.ended ≡ o.first.ended ++ since → ((k : ℕ) → AllAsk (IsFine (function_symbols o.program)) (member_tree o.program k))
@@ -97,47 +102,37 @@ says o h since ended fine lane own rested later over =
     let checks = told.checks in
     let events = runs_events p own over.replies in
     let same : told.since ≡ since = cancelled o.first.ended told.since since (sym told.ended ∙ ended) in
-    let caused : AreCaused links f g 0 0 events = subst (λ es. AreCaused (links_in lane es) f g 0 0 events) same told.caused in
-    let child : (k : ℕ) → IsChildOf functions (slice_get links k) (events_of 0 k events) (checks k) = λ k.
-    subst (λ es. IsChildOf functions (slice_get (links_in lane es) k) (events_of 0 k events) (checks k)) same (told.children k) in
-    let answered : (k : ℕ) → AreChecksOf (answered_in (events_of 0 k events)) (checks k) = λ k. (child k).answered in
-    let own_told = told_runs p links f g lane checks own over.replies over.runs_are answered caused in
-    let all = all_told p links f g lane 0 0 0 own rested checks later own_told in
-    let children : (k : ℕ) → IsChild p (slice_get links k) (child k).recorded.0 (checks k) (runs_of k rested) = λ k.
-    let c = child k in
-    let rest = children_later k own rested later in
-    let asked : map plain c.recorded.0 ≡ turns_of p (runs_of k rested) (checks k) =
-    c.recorded.1 ∙ (turns_runs p links f g lane checks own over.replies over.runs_are answered caused k ∙ sym (turns_rest p (runs_of k own) (runs_of k rested) (checks k) rest)) in
-    let lost : has_lost (events_of 0 k events) ≡ is_lost_in (runs_of k rested) = lost_runs p lane k own over.replies over.runs_are ∙ sym (lost_rests (runs_of k own) (runs_of k rested) rest) in
-    let askable : AreTurns (IsFine functions) (map plain c.recorded.0) =
-    subst (AreTurns (IsFine functions)) (sym asked) (turns_told (IsFine functions) p fine links f g lane rested checks all k (checks k)) in
+    let caused : AreCaused links f g false events = subst (λ es. AreCaused (links_in lane es) f g false events) same told.caused in
+    let recorded : Records functions (has_lost events) links (turns_in false events) checks = subst (λ es. Records functions (has_lost events) (links_in lane es) (turns_in false events) checks) same told.recorded in
+    let own_told = told_runs p links f g lane own over.replies checks over.runs_are told.answered caused in
+    let all = all_told p links f g lane false 0 own rested checks later own_told in
+    let asked : map plain recorded.0 ≡ turns_of false p rested checks =
+    recorded.1 ∙ (turns_runs p links f g lane own over.replies checks over.runs_are told.answered caused ∙ sym (turns_rest false p own rested checks later)) in
+    let lost : has_lost events ≡ lost_after false rested = lost_runs p lane own over.replies over.runs_are ∙ sym (lost_rests false own rested later) in
+    let askable : AreTurns (IsFine functions) (map plain recorded.0) =
+    subst (AreTurns (IsFine functions)) (sym asked) (turns_ask (IsFine functions) p links f g lane fine false 0 rested checks all) in
     record {
-      asked = asked;
-      link_is = c.link_is ∙ (touched_runs p lane k own over.replies over.runs_are ∙ sym (asked_rests (runs_of k own) (runs_of k rested) rest));
-      recorded = subst (λ b. IsRecorded functions b (slice_get links k) c.recorded.0 (checks k)) lost c.recorded.2;
-      well_formed = well_formed functions c.recorded.0 (are_symbols p) askable;
-      sorted = script_sorted functions c.recorded.0 askable;
-    } in
-    record {
-      turns = λ k. (child k).recorded.0;
+      turns = recorded.0;
       checks = checks;
       is = record {
-        children = children;
+        asked = asked;
+        recorded = subst (λ b. IsRecorded functions b links recorded.0 checks) lost recorded.2;
+        well_formed = well_formed functions recorded.0 (are_symbols p) askable;
+        sorted = script_sorted functions recorded.0 askable;
         told = all;
-        starts_failed = subst (λ (k : ℕ). RoseBy k f g) (count_runs is_start p lane 0 0 own over.replies over.runs_are ∙ sym (count_rests is_start own rested later)) told.rose;
       };
     }
 
 -- ---- all lanes
 
 module _ (p : Program) (since : List Ending) (f g jobs : ℕ) (runs : List MemberRun) (lanes : (lane : ℕ) → lane < jobs → Says p (links_in lane since) f g lane (runs_in lane runs)) where
-  abbrev checks_at : (lane : ℕ) → (lane < jobs) ⊎ (jobs ≤ lane) → (child : ℕ) → List Check
+  abbrev checks_at : (lane : ℕ) → (lane < jobs) ⊎ (jobs ≤ lane) → List Check
   checks_at lane (inl below) = (lanes lane below).checks
-  checks_at lane (inr above) = λ child. []
+  checks_at lane (inr above) = []
 
-  abbrev turns_at : (lane : ℕ) → (lane < jobs) ⊎ (jobs ≤ lane) → (child : ℕ) → List ScopedTurn
+  abbrev turns_at : (lane : ℕ) → (lane < jobs) ⊎ (jobs ≤ lane) → List ScopedTurn
   turns_at lane (inl below) = (lanes lane below).turns
-  turns_at lane (inr above) = λ child. []
+  turns_at lane (inr above) = []
 
   lane_at : (lane : ℕ) → lane < jobs → (d : (lane < jobs) ⊎ (jobs ≤ lane)) → IsLane p (links_in lane since) f g lane (turns_at lane d) (checks_at lane d) (runs_in lane runs)
   lane_at lane below (inl b) = (lanes lane b).is
@@ -157,8 +152,8 @@ headline law real_law runs_law o h later some whole fine own rested rest is_rest
     let named = named_rest p own rested rest (named_lines p own over.members) in
     let says_of : (lane : ℕ) → lane < jobs → Says p (links_in lane since) f g lane (runs_in lane rested) = λ lane below.
     says o h since later.ended fine lane (runs_in lane own) (runs_in lane rested) (own_later lane own rested rest) (over.lanes lane below) in
-    let checks : (lane child : ℕ) → List Check = λ lane. checks_at p since f g jobs rested says_of lane (decide lane jobs) in
-    let turns : (lane child : ℕ) → List ScopedTurn = λ lane. turns_at p since f g jobs rested says_of lane (decide lane jobs) in
+    let checks : (lane : ℕ) → List Check = λ lane. checks_at p since f g jobs rested says_of lane (decide lane jobs) in
+    let turns : (lane : ℕ) → List ScopedTurn = λ lane. turns_at p since f g jobs rested says_of lane (decide lane jobs) in
     let lanes : (lane : ℕ) → lane < jobs → IsLane p (links_in lane since) f g lane (turns lane) (checks lane) (runs_in lane rested) = λ lane below.
     lane_at p since f g jobs rested says_of lane below (decide lane jobs) in
     let below = dealt_below jobs 0 rested some dealt in
@@ -185,7 +180,7 @@ headline law real_law runs_law o h later some whole fine own rested rest is_rest
         no_fault = λ calm lawful. in_each (λ (r : MemberRun). is_faulted r.verdict ≡ false) rested (λ r inside.
             each_in (λ (q : MemberRun). is_faulted q.verdict ≡ false) (runs_in r.lane rested) r
             (none_faulted p (links_in r.lane since) f g r.lane calm.starts (each_link (λ (e : Ending). e.faults ≡ 0) r.lane since (calm.links since later.ended))
-            (each_link (λ (e : Ending). IsLawful e.dialogue) r.lane since (lawful since later.ended)) 0 0 (runs_in r.lane rested) (checks r.lane) (lanes r.lane (near r inside)).told)
+            (each_link (λ (e : Ending). IsLawful e.dialogue) r.lane since (lawful since later.ended)) 0 (runs_in r.lane rested) (checks r.lane) (lanes r.lane (near r inside)).told)
             (in_own r rested inside));
         verified = λ fine_runs no_limit. all_verified p checks rested is_rested named (in_each (λ (r : MemberRun). AllUnsat (sequence_of r checks) → has_passed r.verdict ≡ true) rested (λ r inside.
             has_passed_by p (links_in r.lane since) f g r.lane checks r (at r inside) (each_in (λ (q : MemberRun). is_faulted q.verdict ≡ false) rested r fine_runs inside)
@@ -202,12 +197,12 @@ back_first o lane below = record {
   ended = sym (append-nil o.first.ended);
   starts = [];
   started = sym (append-nil o.first.starts);
-  tried = (0, omega arith, refl);
+  once = (false, refl);
   calm = λ steady. (refl, tt);
 }
 
 module _ (o : Outset) (h : Hub) (later : Later o o.first h) (back : AreBack o h) where
-  pub starts_by : Starts o.jobs o.command o.first.starts h.starts (λ lane tries. Unit {0})
+  pub starts_by : Starts o.jobs o.command o.first.starts h.starts (λ lane started. Unit {0})
   starts_by = record {
     since = later.starts;
     is = later.started;
@@ -215,11 +210,11 @@ module _ (o : Outset) (h : Hub) (later : Later o o.first h) (back : AreBack o h)
     each = λ lane below.
         let b = back lane below in
         let same : b.starts ≡ later.starts = cancelled o.first.starts b.starts later.starts (sym b.started ∙ later.started) in
-        (b.tried.0, b.tried.1, subst (λ ss. starts_in lane ss ≡ starts_of b.tried.0 lane o.command) same b.tried.2, tt);
+        (b.once.0, subst (λ ss. starts_in lane ss ≡ started_where b.once.0 lane o.command) same b.once.1, tt);
   }
 
   pub started_by : (own rested : List MemberRun) → AreLater own rested → AreOver o h own
-      → Starts o.jobs o.command o.first.starts h.starts (λ lane tries. nat_lt 0 tries ≡ some_ask o.program (members_of (runs_in lane rested)))
+      → Starts o.jobs o.command o.first.starts h.starts (λ lane started. started ≡ some_ask o.program (members_of (runs_in lane rested)))
   started_by own rested rest over = record {
     since = later.starts;
     is = later.started;
@@ -229,10 +224,9 @@ module _ (o : Outset) (h : Hub) (later : Later o o.first h) (back : AreBack o h)
         let told = is_over.told in
         let events = runs_events o.program (runs_in lane own) is_over.replies in
         let same : told.starts ≡ later.starts = cancelled o.first.starts told.starts later.starts (sym told.started ∙ later.started) in (
-          told.tried.0,
-          told.tried.1,
-          subst (λ ss. starts_in lane ss ≡ starts_of told.tried.0 lane o.command) same told.tried.2,
-          told.tried.3 ∙ asked_runs o.program lane (runs_in lane own) is_over.replies is_over.runs_are
+          has_asked events,
+          subst (λ ss. starts_in lane ss ≡ started_where (has_asked events) lane o.command) same told.once,
+          asked_runs o.program lane (runs_in lane own) is_over.replies is_over.runs_are
               ∙ ap (some_ask o.program) (sym (members_rest (runs_in lane own) (runs_in lane rested) (own_later lane own rested rest))),
         );
   }

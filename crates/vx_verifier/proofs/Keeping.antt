@@ -1,17 +1,18 @@
 -- What a worker keeps, from one call to the next.
-use Rattle.std.proofs.Common.{◌≡◌, ℕ, Bool, true, false, ◌++◌, List, Option, Some, None, Result, Ok, Err, IfOk, OnErr, drop, refl, ap, ◌∙◌, sym, append-nil}
+use Rattle.std.proofs.Common.{◌≡◌, ℕ, ◌-◌, ◌<◌, Bool, true, false, ◌++◌, ◌∷◌, [], List, Option, Some, None, Result, Ok, Err, IfOk, OnErr, is_some, drop, length, refl, ap, ◌∙◌, sym, subst, append-nil, arith}
 use Rattle.vx_ast.specs.Syntax.{Program}
 use Rattle.vx_smt_meaning.specs.declared.reply.Reply.{Reply}
+use Rattle.vx_rules.specs.Trees.{Question}
 use Rattle.vx_machine.specs.declared.machine.Machine.{Machine}
-use Rattle.vx_pool.specs.Events.{Event, with_answer}
+use Rattle.vx_pool.specs.Events.{Event, with_answer, with_leaving, with_loss}
 use Rattle.vx_pool.specs.declared.next.Next.{Next}
 use Rattle.vx_report.specs.declared.run.Cause.{Cause}
 use Rattle.vx_report.specs.declared.run.MemberRun.{MemberRun}
 use Rattle.vx_verifier.specs.declared.members.Stage.{Stage}
 use Rattle.vx_verifier.specs.declared.members.Stage.TheVariants as stage'
 use Rattle.vx_verifier.specs.Headline.{members_of}
-use Rattle.vx_verifier.specs.Lines.{lines_from}
-use Rattle.vx_verifier.specs.Members.{Begins, GoesTo, IsWorking, every, is_ended, is_spent}
+use Rattle.vx_verifier.specs.Lines.{lines, lines_from}
+use Rattle.vx_verifier.specs.Members.{Begins, GoesTo, IsWorking, every, is_ended, is_spent, runs_events, so_far, under_way}
 use Rattle.vx_verifier.proofs.Working.{Loses}
 
 pub no_answer : (events : List (Event Cause)) (reply : Option Reply) → with_answer events reply None ≡ events

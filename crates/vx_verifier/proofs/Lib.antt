@@ -1,6 +1,5 @@
 mod Walks
 mod Events
-mod Numbered
 mod Moved
 mod Held
 mod Sequences

@@ -1,26 +1,36 @@
 -- What a call in one lane leaves of all others.
-use Rattle.std.proofs.Common.{◌≡◌, ℕ, ◌+◌, ◌<◌, ◌≤◌, ◌==◌, ◌&&◌, Bool, IsTrue, if◌then◌else◌, List, [], ◌∷◌, ◌++◌, length, slice_get, refl, ap, sym, subst, ◌∙◌, append_assoc, arith}
+use Rattle.std.proofs.Common.{◌≡◌, ℕ, ◌+◌, ◌<◌, ◌≤◌, ◌==◌, ◌&&◌, Bool, true, false, IsTrue, if◌then◌else◌, List, [], ◌∷◌, ◌++◌, refl, ap, sym, subst, ◌∙◌, append_assoc, arith}
 use Rattle.std.proofs.lemmas.List.{append-nil}
 use Rattle.std.proofs.Math.Nat.{le_refl, le_trans}
 use Rattle.vx_terms.specs.Interpretations.{Each}
+use Rattle.vx_ends.specs.Causes.{Rose}
 use Rattle.vx_ends.specs.declared.piece.Piece.{Piece}
 use Rattle.vx_ends.specs.declared.piece.Start.{Start}
 use Rattle.vx_ends.specs.declared.piece.Ending.{Ending}
 use Rattle.vx_smt_meaning.specs.Commands.{Declared}
+use Rattle.vx_smt_meaning.specs.Dialogues.{Check}
+use Rattle.vx_dialogue.specs.Turns.{Turn}
 use Rattle.vx_live.specs.Functions.{function_symbols}
 use Rattle.vx_rules.specs.Trees.{Question}
 use Rattle.vx_pool.specs.Events.{Event}
 use Rattle.vx_pool.specs.Lanes.{Moves}
+use Rattle.vx_pool.specs.Events as event
 use Rattle.vx_report.specs.declared.run.Cause.{Cause}
+use Rattle.vx_report.specs.declared.run.Cause.TheVariants as cause
 use Rattle.vx_verifier.specs.declared.line.Child.{Child}
-use Rattle.vx_verifier.specs.Causes.{is_start}
+use Rattle.vx_verifier.specs.Causes.{HasCauseOf}
 use Rattle.vx_verifier.specs.Dealt.{links_in, starts_in}
 use Rattle.vx_verifier.specs.Outsets.{Hub, Outset, Later, Moved}
 use Rattle.vx_verifier.specs.Going.{each_join}
-use Rattle.vx_verifier.specs.Lanes.{AreCaused, IsHeld, IsCalm, IsChildOf, PastOf, TellsOf, AsksOf, IsToldOf, IsBack, events_of, losses}
-use Rattle.vx_verifier.proofs.Events.{caused_later, not_same, rose_by_later, same_self}
+use Rattle.vx_verifier.specs.Lanes.{AreCaused, IsHeld, IsCalm, Hears, AwaitsScoped, TellsOf, AsksOf, IsToldOf, IsBack, Records, has_lost, turns_in}
 
 -- ---- the links and starts of a lane
+
+not_same : (m n : ℕ) → (m ≡ n → ⊥) → (m == n) ≡ false
+not_same m n apart = grind arith
+
+same_self : (n : ℕ) → (n == n) ≡ true
+same_self n = grind arith
 
 pub links_join : (lane : ℕ) (xs ys : List Ending) → links_in lane (xs ++ ys) ≡ links_in lane xs ++ links_in lane ys
 links_join lane [] ys = refl
@@ -157,37 +167,33 @@ moved_later o n g h within moved = record {
 
 -- ---- what a call in one lane leaves of the others
 
--- what the links of a lane tell of its past, they tell also behind a call in another lane, whatever the numbers of its count since
-module _ (o : Outset) (n lane : ℕ) (g h : Hub) (apart : lane ≡ n → ⊥) (moved : Moved n g h) where
+rose_later : (f g h : ℕ) → Rose f g → g ≤ h → Rose f h
+rose_later f g h rose more = omega arith
+
+cause_later : (links : List Ending) (f g h : ℕ) (lost : Bool) (x : Cause) → g ≤ h → HasCauseOf links f g lost x → HasCauseOf links f h lost x
+cause_later links f g h lost cause.Pipe more has = has
+cause_later links f g h lost cause.Start more has = (has.0, rose_later f g h has.1 more)
+cause_later links f g h lost cause.Spent more has = has
+cause_later links f g h lost (cause.Reply kept) more has = has
+
+pub caused_later : (links : List Ending) (f g h : ℕ) (lost : Bool) (events : List (Event Cause)) → g ≤ h → AreCaused links f g lost events → AreCaused links f h lost events
+caused_later links f g h lost [] more caused = tt
+caused_later links f g h lost (event.Answered q r ∷ events) more caused = (caused.0, caused_later links f g h lost events more caused.1)
+caused_later links f g h lost (event.Lost q x ∷ events) more caused = (cause_later links f g h lost x more caused.0, caused_later links f g h true events more caused.1)
+caused_later links f g h lost (event.Left ∷ events) more caused = caused_later links f g h lost events more caused
+
+module _ {L : Type 0} (dialogue : L → List Piece) (steady_link : L → Bool) (faults_of : L → ℕ) (o : Outset) (n lane : ℕ) (child : Child L) (g h : Hub) (apart : lane ≡ n → ⊥) (moved : Moved n g h) where
   same_links : (since : List Ending) → links_in lane (since ++ moved.links) ≡ links_in lane since
   same_links since = other_links lane n since moved.links apart moved.links_own
 
   ended_on : (since : List Ending) → g.ended ≡ o.first.ended ++ since → h.ended ≡ o.first.ended ++ (since ++ moved.links)
   ended_on since is = moved.ended ∙ (ap (λ x. x ++ moved.links) is ∙ append_assoc o.first.ended since moved.links)
 
-  caused_on : (since : List Ending) (events : List (Event Cause)) → AreCaused (links_in lane since) o.first.faults g.faults 0 0 events
-      → AreCaused (links_in lane (since ++ moved.links)) o.first.faults h.faults 0 0 events
-  caused_on since events caused =
-      subst (λ x. AreCaused x o.first.faults h.faults 0 0 events) (sym (same_links since)) (caused_later (links_in lane since) o.first.faults g.faults h.faults 0 0 events moved.faults caused)
-
-  past_on : (events : List (Event Cause)) → PastOf o lane g events → PastOf o lane h events
-  past_on events past = record {
-    since = past.since ++ moved.links;
-    ended = ended_on past.since past.ended;
-    checks = past.checks;
-    each = ap length (same_links past.since) ∙ past.each;
-    children = λ child below.
-        subst (λ (links : List Ending). IsChildOf (function_symbols o.program) (slice_get links child) (events_of 0 child events) (past.checks child)) (sym (same_links past.since)) (past.children child below);
-    caused = caused_on past.since events past.caused;
-    rose = rose_by_later (losses is_start events) o.first.faults g.faults h.faults past.rose moved.faults;
-  }
-
-module _ {L : Type 0} (dialogue : L → List Piece) (steady_link : L → Bool) (faults_of : L → ℕ) (o : Outset) (n lane : ℕ) (child : Child L) (g h : Hub) (apart : lane ≡ n → ⊥) (moved : Moved n g h) where
   calm_on : (since : List Ending) → IsCalm steady_link faults_of o lane since g child → IsCalm steady_link faults_of o lane (since ++ moved.links) h child
   calm_on since calm = record {
     spawner = subst IsTrue (sym moved.steady) calm.spawner;
     starts = moved.calm calm.spawner ∙ calm.starts;
-    links_are = subst (λ x. Each (λ (e : Ending). e.faults ≡ 0) x) (sym (same_links o n lane g h apart moved since)) calm.links_are;
+    links_are = subst (λ x. Each (λ (e : Ending). e.faults ≡ 0) x) (sym (same_links since)) calm.links_are;
     child_is = calm.child_is;
   }
 
@@ -198,58 +204,68 @@ module _ {L : Type 0} (dialogue : L → List Piece) (steady_link : L → Bool) (
     functions_are = held.functions_are;
     owed = moved.owed lane apart ∙ held.owed;
     since = held.since ++ moved.links;
-    ended = ended_on o n lane g h apart moved held.since held.ended;
+    ended = ended_on held.since held.ended;
     starts = held.starts ++ moved.starts;
     started = moved.started ∙ (ap (λ x. x ++ moved.starts) held.started ∙ append_assoc o.first.starts held.starts moved.starts);
-    tried = other_starts lane n held.starts moved.starts apart moved.starts_own ∙ held.tried;
-    few = held.few;
+    once = other_starts lane n held.starts moved.starts apart moved.starts_own ∙ held.once;
     faults = le_trans held.faults moved.faults;
     calm = λ steady. calm_on held.since (held.calm steady);
   }
+
+  caused_on : (since : List Ending) (events : List (Event Cause)) → AreCaused (links_in lane since) o.first.faults g.faults false events
+      → AreCaused (links_in lane (since ++ moved.links)) o.first.faults h.faults false events
+  caused_on since events caused =
+      subst (λ x. AreCaused x o.first.faults h.faults false events) (sym (same_links since)) (caused_later (links_in lane since) o.first.faults g.faults h.faults false events moved.faults caused)
 
   pub tells_on : (events : List (Event Cause)) → TellsOf dialogue o lane child g events → TellsOf dialogue o lane child h events
   tells_on events told =
       let t = told.heard_of in
       record {
         heard_of = record {
-          past = past_on o n lane g h apart moved events t.past;
+          since = t.since ++ moved.links;
+          ended = ended_on t.since t.ended;
           checks = t.checks;
           answered = t.answered;
-          heard = t.heard;
+          heard = heard_on t.since _ t.checks t.heard;
+          caused = caused_on t.since events t.caused;
           ready = t.ready;
-          faults = t.faults;
+          lost = t.lost;
           stands = t.stands;
         };
-        talks = told.talks;
-        tried = told.tried;
+        started = told.started;
       }
+    where
+      heard_on : (since : List Ending) (turns : List Turn) (checks : List Check) → Hears dialogue (function_symbols o.program) (links_in lane since) child turns checks
+          → Hears dialogue (function_symbols o.program) (links_in lane (since ++ moved.links)) child turns checks
+      heard_on since turns checks heard = subst (λ x. Hears dialogue (function_symbols o.program) x child turns checks) (sym (same_links since)) heard
 
   pub asks_on : (events : List (Event Cause)) (q : Question) → AsksOf dialogue o lane child g events q → AsksOf dialogue o lane child h events q
   asks_on events q asks = record {
-    past = past_on o n lane g h apart moved events asks.past;
+    since = asks.since ++ moved.links;
+    ended = ended_on asks.since asks.ended;
     checks = asks.checks;
     answered = asks.answered;
     turns = asks.turns;
     said = asks.said;
-    awaits = asks.awaits;
-    faults = asks.faults;
+    awaits = subst (λ x. AwaitsScoped dialogue (function_symbols o.program) x child asks.turns asks.checks q) (sym (same_links asks.since)) asks.awaits;
+    caused = caused_on asks.since events asks.caused;
+    lost = asks.lost;
   }
 
 module _ (o : Outset) (n lane : ℕ) (g h : Hub) (apart : lane ≡ n → ⊥) (moved : Moved n g h) where
   pub told_on : (events : List (Event Cause)) → IsToldOf o lane g events → IsToldOf o lane h events
   told_on events t =
-      let same = same_links o n lane g h apart moved t.since in
+      let same = other_links lane n t.since moved.links apart moved.links_own in
       record {
         since = t.since ++ moved.links;
-        ended = ended_on o n lane g h apart moved t.since t.ended;
+        ended = moved.ended ∙ (ap (λ x. x ++ moved.links) t.ended ∙ append_assoc o.first.ended t.since moved.links);
         starts = t.starts ++ moved.starts;
         started = moved.started ∙ (ap (λ x. x ++ moved.starts) t.started ∙ append_assoc o.first.starts t.starts moved.starts);
-        tried = (t.tried.0, t.tried.1, other_starts lane n t.starts moved.starts apart moved.starts_own ∙ t.tried.2, t.tried.3);
+        once = other_starts lane n t.starts moved.starts apart moved.starts_own ∙ t.once;
         checks = t.checks;
-        children = λ child.
-            subst (λ (links : List Ending). IsChildOf (function_symbols o.program) (slice_get links child) (events_of 0 child events) (t.checks child)) (sym same) (t.children child);
-        caused = caused_on o n lane g h apart moved t.since events t.caused;
-        rose = rose_by_later (losses is_start events) o.first.faults g.faults h.faults t.rose moved.faults;
+        answered = t.answered;
+        recorded = subst (λ x. Records (function_symbols o.program) (has_lost events) x (turns_in false events) t.checks) (sym same) t.recorded;
+        caused = subst (λ x. AreCaused x o.first.faults h.faults false events) (sym same) (caused_later (links_in lane t.since) o.first.faults g.faults h.faults false events moved.faults t.caused);
       }
 
   pub back_on : g.steady ≡ o.first.steady → IsBack o lane g → IsBack o lane h
@@ -259,7 +275,7 @@ module _ (o : Outset) (n lane : ℕ) (g h : Hub) (apart : lane ≡ n → ⊥) (m
     ended = moved.ended ∙ (ap (λ x. x ++ moved.links) b.ended ∙ append_assoc o.first.ended b.since moved.links);
     starts = b.starts ++ moved.starts;
     started = moved.started ∙ (ap (λ x. x ++ moved.starts) b.started ∙ append_assoc o.first.starts b.starts moved.starts);
-    tried = (b.tried.0, b.tried.1, other_starts lane n b.starts moved.starts apart moved.starts_own ∙ b.tried.2);
+    once = (b.once.0, other_starts lane n b.starts moved.starts apart moved.starts_own ∙ b.once.1);
     calm = λ st. let c = b.calm st in (
       moved.calm (subst IsTrue (sym steady) st) ∙ c.0,
       subst (λ x. Each (λ (e : Ending). e.faults ≡ 0) x) (sym (other_links lane n b.since moved.links apart moved.links_own)) c.1,

@@ -40,7 +40,7 @@ last_answer (a ∷ []) (c ∷ d ∷ cs) all possible = absurd all.1
 last_answer (a ∷ b ∷ as') (c ∷ []) all possible = absurd all.1
 last_answer (a ∷ b ∷ as') (c ∷ d ∷ cs) all possible = last_answer (b ∷ as') (d ∷ cs) all.1 possible
 
-module _ (law : RealLaw) (p : Program) (whole : IsWhole p) (all : (lane child : ℕ) → List Check) where
+module _ (law : RealLaw) (p : Program) (whole : IsWhole p) (all : (lane : ℕ) → List Check) where
   is_real : (r : MemberRun) → IsWalked p all r → (at : Place) (c : Code) (m : Member) (f : Method) → r.verdict ≡ verdict.Failed at c Sat → slice_get p r.member.0 ≡ Some m → m.kind ≡ IsMethod f
       → IsInFieldFragment p m.name → LastIsPossible (sequence_of r all) → MethodFails p f at
   is_real r walked at c m f failed found kind inside possible =

@@ -1,5 +1,5 @@
 -- Lists one behind the other, with a part set, and the members of runs.
-use Rattle.std.proofs.Common.{◌≡◌, ◌⊎◌, ℕ, zero, suc, ◌+◌, ◌<◌, ◌≤◌, ◌++◌, ◌∷◌, [], List, Some, length, take, drop, slice_get, slice_set, ap, ◌∙◌, sym, refl, inl, inr, arith}
+use Rattle.std.proofs.Common.{◌≡◌, ◌⊎◌, ℕ, zero, suc, ◌+◌, ◌++◌, ◌∷◌, [], List, Some, length, map, take, drop, slice_get, slice_set, ap, ◌∙◌, sym, refl, inl, inr, arith}
 use Rattle.std.proofs.lemmas.List.{map-append}
 use Rattle.vx_report.specs.declared.run.MemberRun.{MemberRun}
 use Rattle.vx_verifier.specs.Headline.{members_of}
@@ -40,9 +40,3 @@ read_set (z ∷ xs) zero zero y x is = inl (refl, grind arith)
 read_set (z ∷ xs) zero (suc j) y x is = inr (λ e. omega arith, is)
 read_set (z ∷ xs) (suc i) zero y x is = inr (λ e. omega arith, is)
 read_set (z ∷ xs) (suc i) (suc j) y x is = elim (read_set xs i j y x is) [ inl s ↦ inl (ap suc s.0, s.1) | inr s ↦ inr (λ e. s.0 (omega arith), s.1) ]
-
--- one number is below the other, or not
-pub decide : (a b : ℕ) → (a < b) ⊎ (b ≤ a)
-decide a zero = inr (omega arith)
-decide zero (suc b) = inl (omega arith)
-decide (suc a) (suc b) = elim (decide a b) [ inl h ↦ inl (omega arith) | inr h ↦ inr (omega arith) ]

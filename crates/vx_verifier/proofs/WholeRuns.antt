@@ -1,6 +1,6 @@
 -- Where all members are verified by right checks, none fails, and so no whole run does.
 use Rattle.std.proofs.Common.{◌≡◌, ℕ, zero, suc, ◌+◌, ◌<◌, true, List, [], ◌∷◌, take, drop, slice_get, Some, ap, ◌∙◌, subst, sym, refl, arith}
-use Rattle.vx_ast.specs.Syntax.{Name, Program, Kind, IsField, IsPredicate, IsFunction, IsMethod, member_named}
+use Rattle.vx_ast.specs.Syntax.{Name, Program, Member, Kind, IsField, IsPredicate, IsFunction, IsMethod, member_named}
 use Rattle.vx_terms.specs.Interpretations.{Each}
 use Rattle.vx_smt_meaning.specs.Dialogues.{Check}
 use Rattle.vx_meaning.specs.Fails.{Fails}
@@ -25,13 +25,13 @@ module _ {A : Type 0} (P : A → Type 0) where
   each_drop (suc n) [] all = tt
   each_drop (suc n) (x ∷ xs) all = each_drop n xs all.1
 
-module _ (p : Program) (jobs : ℕ) (runs : List MemberRun) (checks : (lane child : ℕ) → List Check) (each : members_of runs ≡ lines p) (below : Each (λ (r : MemberRun). r.lane < jobs) runs)
-    (sound : AreSound p runs checks) (verified : Each (λ (r : MemberRun). r.verdict ≡ verdict.Verified) runs) (right : (lane child : ℕ) → lane < jobs → Each IsRight (checks lane child)) where
+module _ (p : Program) (jobs : ℕ) (runs : List MemberRun) (checks : (lane : ℕ) → List Check) (each : members_of runs ≡ lines p) (below : Each (λ (r : MemberRun). r.lane < jobs) runs)
+    (sound : AreSound p runs checks) (verified : Each (λ (r : MemberRun). r.verdict ≡ verdict.Verified) runs) (right : (lane : ℕ) → lane < jobs → Each IsRight (checks lane)) where
   -- the checks of each run are right
   under : (n : ℕ) → Under (λ own. Each IsRight own) p n runs checks
   under n = in_each (λ (r : MemberRun). LeadsTo p n r.member.0 → Each IsRight (sequence_of r checks)) runs
-      (λ r inside leads. each_take IsRight r.checks (drop r.first (checks r.lane r.child))
-      (each_drop IsRight r.first (checks r.lane r.child) (right r.lane r.child (each_in (λ (q : MemberRun). q.lane < jobs) runs r below inside))))
+      (λ r inside leads. each_take IsRight r.checks (drop r.first (checks r.lane))
+      (each_drop IsRight r.first (checks r.lane) (right r.lane (each_in (λ (q : MemberRun). q.lane < jobs) runs r below inside))))
 
   -- a member with a line has a run, and is verified by it
   with_line : (x : Name) (k : Kind) → member_named p x ≡ Some k → has_line k ≡ true → Fails p x k → ⊥
@@ -54,6 +54,6 @@ module _ (p : Program) (jobs : ℕ) (runs : List MemberRun) (checks : (lane chil
   none_fails x (IsFunction f) named fails = with_line x (IsFunction f) named refl fails
   none_fails x (IsMethod m) named fails = with_line x (IsMethod m) named refl fails
 
-pub keeps_whole_runs : WholeRunLaw → (p : Program) → IsWhole p → (jobs : ℕ) (runs : List MemberRun) (checks : (lane child : ℕ) → List Check) → members_of runs ≡ lines p
+pub keeps_whole_runs : WholeRunLaw → (p : Program) → IsWhole p → (jobs : ℕ) (runs : List MemberRun) (checks : (lane : ℕ) → List Check) → members_of runs ≡ lines p
     → Each (λ (r : MemberRun). r.lane < jobs) runs → AreSound p runs checks → KeepsWholeRuns p jobs runs checks
 keeps_whole_runs law p whole jobs runs checks each below sound verified right = law p whole.typed (none_fails p jobs runs checks each below sound verified right)

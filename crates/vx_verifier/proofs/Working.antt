@@ -1,5 +1,5 @@
 -- How a worker goes on, from one question to the next.
-use Rattle.std.proofs.Common.{◌≡◌, ℕ, suc, ◌+◌, ◌-◌, slice_get, if◌then◌else◌, ◌<◌, ◌≤◌, Bool, true, false, ◌++◌, ◌∷◌, [], List, Option, Some, None, is_some, length, take, drop, refl, ap, ap₂, ◌∙◌, sym, subst, append_assoc, append-nil, length-append, arith}
+use Rattle.std.proofs.Common.{◌≡◌, ℕ, ◌+◌, ◌<◌, ◌≤◌, Bool, true, false, ◌++◌, ◌∷◌, [], List, Option, Some, None, is_some, length, map, take, drop, refl, ap, ap₂, ◌∙◌, sym, subst, append_assoc, append-nil, length-append, arith}
 use Rattle.std.proofs.lemmas.List.{take-append-drop}
 use Rattle.vx_ast.specs.Syntax.{Program}
 use Rattle.vx_smt_meaning.specs.declared.reply.Reply.{Reply}
@@ -25,73 +25,48 @@ use Rattle.vx_report.specs.declared.run.Verdict.TheVariants as verdict
 use Rattle.vx_report.specs.declared.run.MemberRun.{MemberRun}
 use Rattle.vx_report.specs.Reports.{is_resting}
 use Rattle.vx_verifier.specs.declared.members.Stage.TheVariants as stage'
-use Rattle.vx_verifier.specs.Causes.{faults_by, loses_child, one_if}
-use Rattle.vx_verifier.specs.Headline.{IsVerdictOf, members_of, next_child, next_first}
+use Rattle.vx_verifier.specs.Headline.{IsVerdictOf, members_of}
 use Rattle.vx_verifier.specs.Lanes.{verdict_of}
-use Rattle.vx_verifier.specs.Members.{answers_of, over_by, run_events, runs_events, open_in, IsRun, AreRuns, IsOpenAt, IsMember, GoesTo, run_of, left_at, child_behind, first_behind}
+use Rattle.vx_verifier.specs.Members.{answers_of, over_by, run_events, runs_events, open_in, IsRun, AreRuns, IsOpenAt, IsMember, GoesTo, run_of, left_at}
 use Rattle.vx_verifier.specs.Steady.{AsksSpelled}
 use Rattle.vx_verifier.proofs.Events.{standing_behind}
-use Rattle.vx_verifier.proofs.Runs.{own_front, members_more}
+use Rattle.vx_verifier.proofs.Runs.{own_front, members_more, zero_on}
 use Rattle.vx_verifier.proofs.Steady.{open_spelled}
 use Rattle.vx_verifier.proofs.Walks.{walk_extends}
 
 -- ---- one run more
 
-pub runs_more : (p : Program) (lane child first : ℕ) (runs : List MemberRun) (replies : List Reply) (r : MemberRun) (own : List Reply)
-    → AreRuns p lane child first runs replies → IsRun p lane (child_behind child runs) (first_behind first runs) r own → AreRuns p lane child first (runs ++ r ∷ []) (replies ++ own)
-runs_more p lane child first [] replies r own are run =
+pub runs_more : (p : Program) (lane first : ℕ) (runs : List MemberRun) (replies : List Reply) (r : MemberRun) (own : List Reply)
+    → AreRuns p lane first runs replies → IsRun p lane (first + length replies) r own → AreRuns p lane first (runs ++ r ∷ []) (replies ++ own)
+runs_more p lane first [] replies r own are run =
     let front = own_front r.checks (replies ++ own) own [] (ap (λ x. x ++ own) are ∙ sym (append-nil own)) run.count in
-    (subst (IsRun p lane child first r) (sym front.0) run, front.1)
-runs_more p lane child first (s ∷ runs) replies r own are run =
+    let place : first + length replies ≡ first = ap (λ x. first + length x) are ∙ omega arith in
+    (subst (IsRun p lane first r) (sym front.0) (subst (λ k. IsRun p lane k r own) place run), front.1)
+runs_more p lane first (s ∷ runs) replies r own are run =
     let mine = take s.checks replies in
     let behind = drop s.checks replies in
     let parts : replies ≡ mine ++ behind = sym (take-append-drop s.checks replies) in
     let front = own_front s.checks (replies ++ own) mine (behind ++ own) (ap (λ x. x ++ own) parts ∙ append_assoc mine behind own) are.0.count in
-    let c' = next_child child s.verdict in
-    let f' = next_first first s.checks s.verdict in
-    let run' : IsRun p lane (child_behind c' runs) (first_behind f' runs) r own =
-    subst (λ (k : ℕ). IsRun p lane (child_behind (next_child k s.verdict) runs) (first_behind f' runs) r own) are.0.child_is
-    (subst (λ (k : ℕ). IsRun p lane (child_behind (next_child s.child s.verdict) runs) (first_behind (next_first k s.checks s.verdict) runs) r own) are.0.first_is run) in (
-      subst (IsRun p lane child first s) (sym front.0) are.0,
-      subst (AreRuns p lane c' f' (runs ++ r ∷ [])) (sym front.1) (runs_more p lane c' f' runs behind r own are.1 run'),
+    let long : length replies ≡ length mine + length behind = ap length parts ∙ length-append mine behind in
+    let count = are.0.count in
+    let place : first + length replies ≡ (first + s.checks) + length behind = omega arith in (
+      subst (IsRun p lane first s) (sym front.0) are.0,
+      subst (AreRuns p lane (first + s.checks) (runs ++ r ∷ [])) (sym front.1) (runs_more p lane (first + s.checks) runs behind r own are.1 (subst (λ k. IsRun p lane k r own) place run)),
     )
 
-pub events_more : (p : Program) (lane child first : ℕ) (runs : List MemberRun) (replies : List Reply) (r : MemberRun) (own : List Reply) → AreRuns p lane child first runs replies → length own ≡ r.checks
+pub events_more : (p : Program) (lane first : ℕ) (runs : List MemberRun) (replies : List Reply) (r : MemberRun) (own : List Reply) → AreRuns p lane first runs replies → length own ≡ r.checks
     → runs_events p (runs ++ r ∷ []) (replies ++ own) ≡ runs_events p runs replies ++ run_events p r own
-events_more p lane child first [] replies r own are count =
+events_more p lane first [] replies r own are count =
     let front = own_front r.checks (replies ++ own) own [] (ap (λ x. x ++ own) are ∙ sym (append-nil own)) count in
     append-nil (run_events p r (take r.checks (replies ++ own))) ∙ ap (run_events p r) front.0
-events_more p lane child first (s ∷ runs) replies r own are count =
+events_more p lane first (s ∷ runs) replies r own are count =
     let mine = take s.checks replies in
     let behind = drop s.checks replies in
     let parts : replies ≡ mine ++ behind = sym (take-append-drop s.checks replies) in
     let front = own_front s.checks (replies ++ own) mine (behind ++ own) (ap (λ x. x ++ own) parts ∙ append_assoc mine behind own) are.0.count in
     ap₂ (λ x y. run_events p s x ++ runs_events p (runs ++ r ∷ []) y) front.0 front.1
-    ∙ (ap (λ x. run_events p s mine ++ x) (events_more p lane (next_child child s.verdict) (next_first first s.checks s.verdict) runs behind r own are.1 count)
+    ∙ (ap (λ x. run_events p s mine ++ x) (events_more p lane (first + s.checks) runs behind r own are.1 count)
     ∙ sym (append_assoc (run_events p s mine) (runs_events p runs behind) (run_events p r own)))
-
--- what comes behind runs is said by the last one
-pub record Behind (child first : ℕ) (runs : List MemberRun) (r : MemberRun) : Type 0 where
-  pub child_is : child_behind child runs ≡ next_child r.child r.verdict
-  pub first_is : first_behind first runs ≡ next_first r.first r.checks r.verdict
-
-same_run : (r s : MemberRun) → (let o : Option MemberRun = Some r in o) ≡ Some s → r ≡ s
-same_run r s e = cc
-
-pub last_is : (child first : ℕ) (runs : List MemberRun) (r : MemberRun) → Some r ≡ slice_get runs (length runs - 1) → Behind child first runs r
-last_is child first [] r e = absurd (cc)
-last_is child first (s ∷ []) r e = subst (λ (x : MemberRun). Behind child first (s ∷ []) x) (sym (same_run r s e)) (record { child_is = refl; first_is = refl })
-last_is child first (s ∷ t ∷ runs) r e =
-    let less : length (s ∷ t ∷ runs) - 1 ≡ suc (length (t ∷ runs) - 1) = omega arith in
-    let more = last_is (next_child s.child s.verdict) (next_first s.first s.checks s.verdict) (t ∷ runs) r (e ∙ ap (slice_get (s ∷ t ∷ runs)) less) in
-    record { child_is = more.child_is; first_is = more.first_is }
-
--- by its verdict the child was lost, or not
-pub lost_next : (child first checks : ℕ) (v : Verdict) → faults_by loses_child v ≡ true → (next_child child v ≡ child + 1) × (next_first first checks v ≡ 0)
-lost_next child first checks v is = (ap (λ (b : Bool). child + one_if b) is, ap (λ (b : Bool). if b then 0 else first + checks) is)
-
-pub kept_next : (child first checks : ℕ) (v : Verdict) → faults_by loses_child v ≡ false → (next_child child v ≡ child) × (next_first first checks v ≡ first + checks)
-kept_next child first checks v is = (ap (λ (b : Bool). child + one_if b) is ∙ omega arith, ap (λ (b : Bool). if b then 0 else first + checks) is)
 
 -- ---- the question that is open
 
@@ -162,7 +137,7 @@ module _ (p : Program) (m m' : Machine) (is : IsMember p m) where
   few_more None = omega arith
   few_more (Some r) = omega arith
 
-  pub goes_to_question : (lane : ℕ) (runs : List MemberRun) (replies : List Reply) (reply : Option Reply) (q : Query) → awaits m.phase ≡ is_some reply → AreRuns p lane 0 0 runs replies → AsksSpelled p
+  pub goes_to_question : (lane : ℕ) (runs : List MemberRun) (replies : List Reply) (reply : Option Reply) (q : Query) → awaits m.phase ≡ is_some reply → AreRuns p lane 0 runs replies → AsksSpelled p
       → Tells p m m' reply (Due q) → GoesTo p lane runs replies m reply runs replies (stage'.Asked m') (next'.Question q m'.stays)
   goes_to_question lane runs replies reply q awaited are spelled tells =
       let w' = walk (member_tree p m'.member.0) (given m') in
@@ -222,21 +197,21 @@ module _ (p : Program) (m m' : Machine) (is : IsMember p m) where
   left_behind e (outcome.Failed place c r) = refl
   left_behind e (outcome.Limit n) = refl
 
-  pub goes_to_end : (lane : ℕ) (runs : List MemberRun) (replies : List Reply) (reply : Option Reply) (o : Outcome) (v : Verdict) → v ≡ verdict_of o → awaits m.phase ≡ is_some reply → AreRuns p lane 0 0 runs replies
-      → Tells p m m' reply (Done o) → GoesTo p lane runs replies m reply (runs ++ run_of lane (child_behind 0 runs) (first_behind 0 runs) m' v ∷ []) (replies ++ m'.replies.items) stage'.Between next'.Left
+  pub goes_to_end : (lane : ℕ) (runs : List MemberRun) (replies : List Reply) (reply : Option Reply) (o : Outcome) (v : Verdict) → v ≡ verdict_of o → awaits m.phase ≡ is_some reply → AreRuns p lane 0 runs replies
+      → Tells p m m' reply (Done o) → GoesTo p lane runs replies m reply (runs ++ run_of lane (length replies) m' v ∷ []) (replies ++ m'.replies.items) stage'.Between next'.Left
   goes_to_end lane runs replies reply o v verdict_is awaited are tells =
       let w' = walk (member_tree p m'.member.0) (given m') in
       let base = runs_events p runs replies in
-      let run = run_of lane (child_behind 0 runs) (first_behind 0 runs) m' v in
+      let run = run_of lane (length replies) m' v in
       let long = longer reply (Done o) tells in
       let one = few_more reply in
       let few = is.few in
       let limit : m'.limit ≡ 100000 = tells.limit ∙ is.limit in
       let told : Told (Done o) w' 100000 (length m'.replies.items) = subst (λ k. Told (Done o) w' k (length m'.replies.items)) limit tells.told in
-      let is_run : IsRun p lane (child_behind 0 runs) (first_behind 0 runs) run m'.replies.items = record {
+      let is_run : IsRun p lane (0 + length replies) run m'.replies.items = record {
         own_lane = refl;
-        child_is = refl;
-        first_is = refl;
+        child = refl;
+        first_is = zero_on (length replies);
         count = refl;
         few = omega arith;
         answered = tells.answered;
@@ -246,9 +221,9 @@ module _ (p : Program) (m m' : Machine) (is : IsMember p m) where
       let over : over_by w'.ending v ≡ event.Left ∷ [] = ap (over_by w'.ending) verdict_is ∙ left_behind w'.ending o in
       record {
         at = tt;
-        runs_are = runs_more p lane 0 0 runs replies run m'.replies.items are is_run;
+        runs_are = runs_more p lane 0 runs replies run m'.replies.items are is_run;
         told = append-nil (runs_events p (runs ++ run ∷ []) (replies ++ m'.replies.items))
-            ∙ (events_more p lane 0 0 runs replies run m'.replies.items are refl
+            ∙ (events_more p lane 0 runs replies run m'.replies.items are refl
             ∙ (ap (λ x. base ++ (answers_of w'.answered ++ x)) over
             ∙ (sym (append_assoc base (answers_of w'.answered) (event.Left ∷ [])) ∙ ap (λ x. x ++ event.Left ∷ []) (answers_on reply (Done o) awaited tells base))));
         asks = refl;
@@ -262,24 +237,24 @@ module _ (p : Program) (m m' : Machine) (is : IsMember p m) where
 -- ---- the open question is lost
 
 pub record Loses (p : Program) (lane : ℕ) (runs : List MemberRun) (replies : List Reply) (m : Machine) (x : Cause) (runs' : List MemberRun) (replies' : List Reply) : Type 0 where
-  pub runs_are : AreRuns p lane 0 0 runs' replies'
+  pub runs_are : AreRuns p lane 0 runs' replies'
   pub told : runs_events p runs' replies' ++ [] ≡ with_loss (runs_events p runs replies ++ answers_of (walk (member_tree p m.member.0) (given m)).answered) (open_in m.phase) x
   pub members : members_of runs' ++ [] ≡ members_of runs ++ m.member.0 ∷ []
   pub fewer : (k : ℕ) → left_at k stage'.Between ≤ left_at k (stage'.Asked m)
 
-pub loses : (p : Program) (lane : ℕ) (runs : List MemberRun) (replies : List Reply) (m : Machine) (x : Cause) → IsMember p m → awaits m.phase ≡ true → AreRuns p lane 0 0 runs replies
-    → Loses p lane runs replies m x (runs ++ run_of lane (child_behind 0 runs) (first_behind 0 runs) m (verdict.Fault x) ∷ []) (replies ++ m.replies.items)
+pub loses : (p : Program) (lane : ℕ) (runs : List MemberRun) (replies : List Reply) (m : Machine) (x : Cause) → IsMember p m → awaits m.phase ≡ true → AreRuns p lane 0 runs replies
+    → Loses p lane runs replies m x (runs ++ run_of lane (length replies) m (verdict.Fault x) ∷ []) (replies ++ m.replies.items)
 loses p lane runs replies m x is awaited are =
     let w = walk (member_tree p m.member.0) (given m) in
     let base = runs_events p runs replies in
-    let run = run_of lane (child_behind 0 runs) (first_behind 0 runs) m (verdict.Fault x) in
+    let run = run_of lane (length replies) m (verdict.Fault x) in
     let some = open_some m.phase awaited in
     let few = is.few in
     let due : w.ending ≡ Open some.0 = subst (λ (o : Option Question). IsOpenAt o w.ending) some.1 is.due in
-    let is_run : IsRun p lane (child_behind 0 runs) (first_behind 0 runs) run m.replies.items = record {
+    let is_run : IsRun p lane (0 + length replies) run m.replies.items = record {
       own_lane = refl;
-      child_is = refl;
-      first_is = refl;
+      child = refl;
+      first_is = zero_on (length replies);
       count = refl;
       few = omega arith;
       answered = is.answered;
@@ -287,9 +262,9 @@ loses p lane runs replies m x is awaited are =
       alone = refl;
     } in
     record {
-      runs_are = runs_more p lane 0 0 runs replies run m.replies.items are is_run;
+      runs_are = runs_more p lane 0 runs replies run m.replies.items are is_run;
       told = append-nil (runs_events p (runs ++ run ∷ []) (replies ++ m.replies.items))
-          ∙ (events_more p lane 0 0 runs replies run m.replies.items are refl
+          ∙ (events_more p lane 0 runs replies run m.replies.items are refl
           ∙ (ap (λ (e : Ends). base ++ (answers_of w.answered ++ over_by e (verdict.Fault x))) due
           ∙ (sym (append_assoc base (answers_of w.answered) (event.Lost some.0 x ∷ [])) ∙ ap (λ (o : Option Question). with_loss (base ++ answers_of w.answered) o x) (sym some.1))));
       members = append-nil (members_of (runs ++ run ∷ [])) ∙ members_more runs run;

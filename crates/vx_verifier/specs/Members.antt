@@ -1,5 +1,5 @@
 -- What happens in a lane while its members are executed, by their runs and the replies to their checks.
-use Rattle.std.specs.Prelude.{◌≡◌, ⊤, ℕ, zero, suc, ◌+◌, ◌-◌, ◌*◌, ◌<◌, ◌≤◌, Bool, true, false, List, [], ◌∷◌, ◌++◌, Option, Some, None, length, take, drop}
+use Rattle.std.specs.Prelude.{◌≡◌, ⊤, ℕ, zero, suc, ◌+◌, ◌-◌, ◌*◌, ◌<◌, ◌≤◌, Bool, true, false, List, [], ◌∷◌, ◌++◌, Option, Some, None, length, map, take, drop}
 use Rattle.vx_ast.specs.Syntax.{Program}
 use Rattle.vx_smt_meaning.specs.declared.reply.Reply.{Reply}
 use Rattle.vx_rules.specs.Trees.{Question, Answered, Ending as Ends, Passed, Failed, Open, walk}
@@ -18,7 +18,7 @@ use Rattle.vx_report.specs.declared.run.MemberRun.{MemberRun}
 use Rattle.vx_report.specs.Reports.{is_resting}
 use Rattle.vx_verifier.specs.declared.members.Stage.{Stage}
 use Rattle.vx_verifier.specs.declared.members.Stage.TheVariants as stage'
-use Rattle.vx_verifier.specs.Headline.{IsVerdictOf, members_of, next_child, next_first}
+use Rattle.vx_verifier.specs.Headline.{IsVerdictOf, members_of}
 use Rattle.vx_verifier.specs.Lines.{lines, lines_from}
 use Rattle.vx_verifier.specs.Steady.{IsSpelled}
 
@@ -74,10 +74,10 @@ so_far p stage'.Between = []
 so_far p stage'.Ended = []
 so_far p stage'.Spent = []
 
--- A run of this lane and this child, with the replies to its checks, of which the first has this number: its verdict is that of the walk, whatever the cause of a fault.
-pub record IsRun (p : Program) (lane child first : ℕ) (r : MemberRun) (own : List Reply) : Type 0 where
+-- A run of this lane, with the replies to its checks, of which the first has this number: its verdict is that of the walk, whatever the cause of a fault.
+pub record IsRun (p : Program) (lane first : ℕ) (r : MemberRun) (own : List Reply) : Type 0 where
   pub own_lane : r.lane ≡ lane
-  pub child_is : r.child ≡ child
+  pub child : r.child ≡ 0
   pub first_is : r.first ≡ first
   pub count : length own ≡ r.checks
   pub few : r.checks ≤ 100000
@@ -85,19 +85,9 @@ pub record IsRun (p : Program) (lane child first : ℕ) (r : MemberRun) (own : L
   pub verdict : IsVerdictOf (λ cause. ⊤) (walk (member_tree p r.member.0) own).ending r.checks r.verdict
   pub alone : is_resting r.verdict ≡ false
 
-abbrev pub AreRuns : Program → (lane child first : ℕ) → List MemberRun → List Reply → Type 0
-AreRuns p lane child first [] replies = replies ≡ []
-AreRuns p lane child first (r ∷ runs) replies =
-    IsRun p lane child first r (take r.checks replies) × AreRuns p lane (next_child child r.verdict) (next_first first r.checks r.verdict) runs (drop r.checks replies)
-
--- the number of the child that is asked behind these runs, and of the first of its checks
-abbrev pub child_behind : (child : ℕ) → List MemberRun → ℕ
-child_behind child [] = child
-child_behind child (r ∷ runs) = child_behind (next_child r.child r.verdict) runs
-
-abbrev pub first_behind : (first : ℕ) → List MemberRun → ℕ
-first_behind first [] = first
-first_behind first (r ∷ runs) = first_behind (next_first r.first r.checks r.verdict) runs
+abbrev pub AreRuns : Program → (lane first : ℕ) → List MemberRun → List Reply → Type 0
+AreRuns p lane first [] replies = replies ≡ []
+AreRuns p lane first (r ∷ runs) replies = IsRun p lane first r (take r.checks replies) × AreRuns p lane (first + r.checks) runs (drop r.checks replies)
 
 -- of a list the part behind the first `skip` parts, and from then on each so many parts further on
 abbrev pub every : (jobs skip : ℕ) → List ℕ → List ℕ
@@ -150,7 +140,7 @@ is_spent stage'.Ended = false
 pub record IsWorking (p : Program) (jobs lane : ℕ) (next skip : ℕ) (runs : List MemberRun) (replies : List Reply) (stage : Stage) : Type 0 where
   pub some : 1 ≤ jobs
   pub at : IsAtStage p stage
-  pub runs_are : AreRuns p lane 0 0 runs replies
+  pub runs_are : AreRuns p lane 0 runs replies
   pub dealt : (members_of runs ++ under_way stage) ++ every jobs skip (lines_from next (drop next p)) ≡ every jobs lane (lines p)
   pub ended : is_ended stage ≡ true → every jobs skip (lines_from next (drop next p)) ≡ []
 
@@ -158,7 +148,7 @@ pub record IsWorking (p : Program) (jobs lane : ℕ) (next skip : ℕ) (runs : L
 pub record GoesTo (p : Program) (lane : ℕ) (runs : List MemberRun) (replies : List Reply) (m : Machine) (reply : Option Reply) (runs' : List MemberRun) (replies' : List Reply) (stage : Stage)
     (next : Next) : Type 0 where
   pub at : IsAtStage p stage
-  pub runs_are : AreRuns p lane 0 0 runs' replies'
+  pub runs_are : AreRuns p lane 0 runs' replies'
   pub told : runs_events p runs' replies' ++ so_far p stage
       ≡ with_leaving (with_answer (runs_events p runs replies ++ answers_of (walk (member_tree p m.member.0) (given m)).answered) reply (open_in m.phase)) next
   pub asks : asked_at stage ≡ question_in next
@@ -172,7 +162,7 @@ pub record GoesTo (p : Program) (lane : ℕ) (runs : List MemberRun) (replies : 
 pub record Begins (p : Program) (jobs lane : ℕ) (next skip : ℕ) (runs : List MemberRun) (replies : List Reply) (next' skip' : ℕ) (runs' : List MemberRun) (replies' : List Reply) (stage : Stage)
     (what : Next) : Type 0 where
   pub at : IsAtStage p stage
-  pub runs_are : AreRuns p lane 0 0 runs' replies'
+  pub runs_are : AreRuns p lane 0 runs' replies'
   pub told : runs_events p runs' replies' ++ so_far p stage ≡ with_leaving (runs_events p runs replies) what
   pub asks : asked_at stage ≡ question_in what
   pub postable : IfQuestion what (λ q stays. IsSpelled q)
@@ -182,9 +172,9 @@ pub record Begins (p : Program) (jobs lane : ℕ) (next skip : ℕ) (runs : List
   pub over : is_ended stage ≡ true → every jobs skip' (lines_from next' (drop next' p)) ≡ []
   pub fewer : left_at (length p - next') stage < left_at (length p - next) stage'.Between
 
--- a run of this child with this verdict, whose checks are those of its machine, from this number on
-abbrev pub run_of : (lane child first : ℕ) → Machine → Verdict → MemberRun
-run_of lane child first m v = record { member = m.member; lane = lane; child = child; first = first; checks = length m.replies.items; verdict = v }
+-- a run with this verdict, whose checks are those of its machine, from this number on
+abbrev pub run_of : (lane first : ℕ) → Machine → Verdict → MemberRun
+run_of lane first m v = record { member = m.member; lane = lane; child = 0; first = first; checks = length m.replies.items; verdict = v }
 
 abbrev pub some_list : Option ℕ → List ℕ
 some_list None = []

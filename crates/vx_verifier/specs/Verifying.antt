@@ -1,5 +1,5 @@
 -- How members come from their lanes into one list.
-use Rattle.std.specs.Prelude.{◌≡◌, ℕ, Bool, ◌+◌, ◌-◌, ◌<◌, nat_lt, if◌then◌else◌, List, [], Some, length, map, reverse, slice_get}
+use Rattle.std.specs.Prelude.{◌≡◌, ℕ, Bool, ◌+◌, ◌-◌, ◌<◌, ◌≤◌, nat_lt, if◌then◌else◌, List, [], ◌∷◌, Some, length, map, reverse, slice_get}
 use Rattle.std.specs.declared.vec.Vec.{Vec}
 use Rattle.std.specs.declared.alloc.Global.{Global}
 use Rattle.vx_terms.specs.Interpretations.{Each}
@@ -9,7 +9,7 @@ use Rattle.vx_ends.specs.declared.piece.Piece.{Piece}
 use Rattle.vx_pool.specs.Events.{Event}
 use Rattle.vx_report.specs.declared.run.Cause.{Cause}
 use Rattle.vx_report.specs.declared.run.MemberRun.{MemberRun}
-use Rattle.vx_verifier.specs.declared.line.Child.TheVariants.{Absent}
+use Rattle.vx_verifier.specs.declared.line.Child.TheVariants.{NotStarted}
 use Rattle.vx_verifier.specs.declared.line.Line.{Line}
 use Rattle.vx_verifier.specs.declared.members.Members.{Members}
 use Rattle.vx_verifier.specs.declared.members.Stage.TheVariants.{Between}
@@ -30,7 +30,7 @@ pub record IsFresh {K L : Type 0} (jobs : ℕ) (command : List (List ℕ)) (func
   pub runs : w.runs.items ≡ []
   pub replies : w.replies.items ≡ []
   pub number : t.lane ≡ i
-  pub child : t.child ≡ Absent 0
+  pub child : t.child ≡ NotStarted
   pub command_is : t.command.now ≡ command
   pub functions_are : map declared_symbol t.functions.now ≡ functions
 

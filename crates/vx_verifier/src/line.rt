@@ -1,6 +1,6 @@
-//! The talker of a lane: its child, which is started at the lane's first question, and anew behind a fault.
+//! The talker of a lane: its child, which is started at the lane's first question.
 
-ghost use Rattle.std.specs.Prelude.{◌≡◌, ℕ, ◌+◌, ◌<◌, ◌≤◌, ◌++◌, ◌∷◌, [], List, IfOk, IfErr, OnOk, MatchResult, map, true};
+ghost use Rattle.std.specs.Prelude.{◌≡◌, ℕ, ◌+◌, ◌<◌, ◌++◌, ◌∷◌, [], List, IfOk, IfErr, OnOk, MatchResult, map, true};
 ghost use Rattle.vx_smt_meaning.specs.Commands as smt;
 ghost use Rattle.vx_smt_meaning.specs.Views.{declared_symbol};
 ghost use Rattle.vx_segments.specs.Segments.{terms};
@@ -13,7 +13,6 @@ ghost use Rattle.vx_stack.specs.Stack as rules;
 ghost use Rattle.vx_pool.specs.Events.{Event, GoesOn, IfFault};
 ghost use Rattle.vx_pool.specs.Events as event;
 ghost use Rattle.vx_report.specs.declared.run.Cause.{Cause as Why};
-ghost use Rattle.vx_verifier.specs.Causes.{further_starts};
 ghost use Rattle.vx_verifier.specs.Lanes as spec;
 ghost use Rattle.vx_verifier.specs.Lanes.{IsBack, IsHeld, IsReady, IsToldOf, HearsOf, TellsOf, AsksOf, links_out};
 ghost use Rattle.vx_verifier.specs.Outsets.{Hub, Moved, Outset, hub};
@@ -33,14 +32,12 @@ use vx_segments::Entry;
 use vx_smt_meaning::Declared;
 use vx_stack::Query;
 
-/// How often a lane's child is started anew.
-const FURTHER_STARTS: u32 = 3;
-
-/// The child of a lane, behind so many faults of the lane's children and of their starts.
+/// The child of a lane.
 pub enum Child<L> {
-    /// None was started yet, or the last one was lost.
-    Absent(u32),
-    Talking(u32, Dialogue<L>),
+    NotStarted,
+    Talking(Dialogue<L>),
+    /// It faulted, or its start did, and no further one is started.
+    Lost,
 }
 
 /// A lane's child, with the command that starts it and the symbols that it is told first.
@@ -55,11 +52,11 @@ pub struct Line<'a, K, L> {
 impl<'a, K: Begun, L: Link> Line<'a, K, L> {
     /// A lane whose child isn't started yet. No memory.
     pub fn new(lane: u32, command: &'a Parts, functions: &'a [Declared]) -> Line<'a, K, L>
-        ensures { (result.lane ≡ lane) × (result.child ≡ Child.Absent 0) × (result.command.now ≡ command.now) × (result.functions.now ≡ functions.now) }
+        ensures { (result.lane ≡ lane) × (result.child ≡ Child.NotStarted) × (result.command.now ≡ command.now) × (result.functions.now ≡ functions.now) }
     {
         Line {
             lane,
-            child: Child::Absent(0),
+            child: Child::NotStarted,
             command,
             functions,
             of: PhantomData,
@@ -84,43 +81,38 @@ fn start<K: Begun, W: Spawner>(
     lane: u32,
     command: &Parts,
     functions: &[Declared],
-    faults: u32,
     spawner: &mut W,
 ) -> Result<Dialogue<W::Link>, (Child<W::Link>, Stop<Cause>)>
-    requires few { faults ≤ further_starts }
-    requires held { IsHeld W.Link.steady W.Link.faults K.outset lane command.now (map declared_symbol functions.now) (Child.Absent faults)
+    requires { IsHeld W.Link.steady W.Link.faults K.outset lane command.now (map declared_symbol functions.now) Child.NotStarted
         (hub W.starts W.owed W.ended W.faults W.steady spawner.old) }
     ensures held { MatchResult result
-        (λ d. IsHeld W.Link.steady W.Link.faults K.outset lane command.now (map declared_symbol functions.now) (Child.Talking faults d)
+        (λ d. IsHeld W.Link.steady W.Link.faults K.outset lane command.now (map declared_symbol functions.now) (Child.Talking d)
         (hub W.starts W.owed W.ended W.faults W.steady spawner.new))
         (λ e. IsHeld W.Link.steady W.Link.faults K.outset lane command.now (map declared_symbol functions.now) e.0
         (hub W.starts W.owed W.ended W.faults W.steady spawner.new)) }
     ensures told { IfOk result (λ d. (events : List (Event Why))
-        → HearsOf W.Link.dialogue K.outset lane (Child.Absent faults) (hub W.starts W.owed W.ended W.faults W.steady spawner.old) events
-        → HearsOf W.Link.dialogue K.outset lane (Child.Talking faults d) (hub W.starts W.owed W.ended W.faults W.steady spawner.new) events) }
+        → HearsOf W.Link.dialogue K.outset lane Child.NotStarted (hub W.starts W.owed W.ended W.faults W.steady spawner.old) events
+        → HearsOf W.Link.dialogue K.outset lane (Child.Talking d) (hub W.starts W.owed W.ended W.faults W.steady spawner.new) events) }
     ensures fault { IfErr result (λ e. IfFault e.1 (λ cause. (events : List (Event Why)) (q : Question)
-        → HearsOf W.Link.dialogue K.outset lane (Child.Absent faults) (hub W.starts W.owed W.ended W.faults W.steady spawner.old) events
+        → HearsOf W.Link.dialogue K.outset lane Child.NotStarted (hub W.starts W.owed W.ended W.faults W.steady spawner.old) events
         → TellsOf W.Link.dialogue K.outset lane e.0 (hub W.starts W.owed W.ended W.faults W.steady spawner.new) (events ++ event.Lost q cause ∷ []))) }
     ensures moved { Moved lane (hub W.starts W.owed W.ended W.faults W.steady spawner.old) (hub W.starts W.owed W.ended W.faults W.steady spawner.new) }
 {
     let link = match spawner.start(alloc, lane, command) {
         Ok(link) => link,
-        Err(StartFault::Failed) => return Err((
-            Child::Absent(faults + 1),
-            Stop::Fault(Cause::Start),
-        )),
-        Err(StartFault::Want) => return Err((Child::Absent(faults), Stop::Want)),
+        Err(StartFault::Failed) => return Err((Child::Lost, Stop::Fault(Cause::Start))),
+        Err(StartFault::Want) => return Err((Child::NotStarted, Stop::Want)),
     };
     match Dialogue::open(alloc, link, functions, false) {
         Ok(dialogue) => Ok(dialogue),
         Err((link, talk)) => {
             spawner.finish(lane, link);
-            Err((Child::Absent(faults + 1), stop_of(talk)))
+            Err((Child::Lost, stop_of(talk)))
         }
     }
 }
 
-// The lane's child, which is started where there is none, with the faults before it; or what there is in place of it.
+// The lane's child, which is started where there was none yet; or what there is in place of it.
 fn talking<K: Begun, W: Spawner>(
     alloc: Global,
     lane: u32,
@@ -128,31 +120,26 @@ fn talking<K: Begun, W: Spawner>(
     functions: &[Declared],
     spawner: &mut W,
     child: Child<W::Link>,
-) -> Result<(u32, Dialogue<W::Link>), (Child<W::Link>, Stop<Cause>)>
+) -> Result<Dialogue<W::Link>, (Child<W::Link>, Stop<Cause>)>
     requires { IsHeld W.Link.steady W.Link.faults K.outset lane command.now (map declared_symbol functions.now) child
         (hub W.starts W.owed W.ended W.faults W.steady spawner.old) }
     ensures held { MatchResult result
-        (λ d. IsHeld W.Link.steady W.Link.faults K.outset lane command.now (map declared_symbol functions.now) (Child.Talking d.0 d.1)
+        (λ d. IsHeld W.Link.steady W.Link.faults K.outset lane command.now (map declared_symbol functions.now) (Child.Talking d)
         (hub W.starts W.owed W.ended W.faults W.steady spawner.new))
         (λ e. IsHeld W.Link.steady W.Link.faults K.outset lane command.now (map declared_symbol functions.now) e.0
         (hub W.starts W.owed W.ended W.faults W.steady spawner.new)) }
     ensures told { IfOk result (λ d. (events : List (Event Why))
         → TellsOf W.Link.dialogue K.outset lane child (hub W.starts W.owed W.ended W.faults W.steady spawner.old) events
-        → HearsOf W.Link.dialogue K.outset lane (Child.Talking d.0 d.1) (hub W.starts W.owed W.ended W.faults W.steady spawner.new) events) }
+        → HearsOf W.Link.dialogue K.outset lane (Child.Talking d) (hub W.starts W.owed W.ended W.faults W.steady spawner.new) events) }
     ensures fault { IfErr result (λ e. IfFault e.1 (λ cause. (events : List (Event Why)) (q : Question)
         → TellsOf W.Link.dialogue K.outset lane child (hub W.starts W.owed W.ended W.faults W.steady spawner.old) events
         → TellsOf W.Link.dialogue K.outset lane e.0 (hub W.starts W.owed W.ended W.faults W.steady spawner.new) (events ++ event.Lost q cause ∷ []))) }
     ensures moved { Moved lane (hub W.starts W.owed W.ended W.faults W.steady spawner.old) (hub W.starts W.owed W.ended W.faults W.steady spawner.new) }
 {
     match child {
-        Child::Talking(faults, dialogue) => Ok((faults, dialogue)),
-        Child::Absent(faults) => {
-            if faults > FURTHER_STARTS {
-                return Err((Child::Absent(faults), Stop::Fault(Cause::Spent)));
-            }
-            let dialogue = start::<K, W>(alloc, lane, command, functions, faults, spawner)?;
-            Ok((faults, dialogue))
-        }
+        Child::NotStarted => start::<K, W>(alloc, lane, command, functions, spawner),
+        Child::Talking(dialogue) => Ok(dialogue),
+        Child::Lost => Err((Child::Lost, Stop::Fault(Cause::Spent))),
     }
 }
 
@@ -178,24 +165,22 @@ fn tell<K: Begun, W: Spawner>(
     alloc: Global,
     lane: u32,
     spawner: &mut W,
-    faults: u32,
     dialogue: Dialogue<W::Link>,
     query: &Query,
     stays: bool,
 ) -> (Child<W::Link>, Result<(), Stop<Cause>>)
-    requires few { faults ≤ further_starts }
     requires owed { 0 < W.owed spawner.old lane }
     requires told { (events : List (Event Why))
-        × HearsOf W.Link.dialogue K.outset lane (Child.Talking faults dialogue) (hub W.starts W.owed W.ended W.faults W.steady spawner.old) events
+        × HearsOf W.Link.dialogue K.outset lane (Child.Talking dialogue) (hub W.starts W.owed W.ended W.faults W.steady spawner.old) events
         × IsSpelled (rules.query query.now) × GoesOn events (rules.query query.now) stays }
     ensures held { (command : List (List ℕ)) (functions : List smt.Declared)
-        → IsHeld W.Link.steady W.Link.faults K.outset lane command functions (Child.Talking faults dialogue) (hub W.starts W.owed W.ended W.faults W.steady spawner.old)
+        → IsHeld W.Link.steady W.Link.faults K.outset lane command functions (Child.Talking dialogue) (hub W.starts W.owed W.ended W.faults W.steady spawner.old)
         → IsHeld W.Link.steady W.Link.faults K.outset lane command functions result.0 (hub W.starts W.owed W.ended W.faults W.steady spawner.new) }
     ensures told { OnOk result.1 ((events : List (Event Why))
-        → HearsOf W.Link.dialogue K.outset lane (Child.Talking faults dialogue) (hub W.starts W.owed W.ended W.faults W.steady spawner.old) events
+        → HearsOf W.Link.dialogue K.outset lane (Child.Talking dialogue) (hub W.starts W.owed W.ended W.faults W.steady spawner.old) events
         → AsksOf W.Link.dialogue K.outset lane result.0 (hub W.starts W.owed W.ended W.faults W.steady spawner.new) events (rules.query query.now)) }
     ensures fault { IfErr result.1 (λ stop. IfFault stop (λ cause. (events : List (Event Why))
-        → HearsOf W.Link.dialogue K.outset lane (Child.Talking faults dialogue) (hub W.starts W.owed W.ended W.faults W.steady spawner.old) events
+        → HearsOf W.Link.dialogue K.outset lane (Child.Talking dialogue) (hub W.starts W.owed W.ended W.faults W.steady spawner.old) events
         → TellsOf W.Link.dialogue K.outset lane result.0 (hub W.starts W.owed W.ended W.faults W.steady spawner.new)
         (events ++ event.Lost (rules.query query.now) cause ∷ []))) }
     ensures moved { Moved lane (hub W.starts W.owed W.ended W.faults W.steady spawner.old) (hub W.starts W.owed W.ended W.faults W.steady spawner.new) }
@@ -203,13 +188,13 @@ fn tell<K: Begun, W: Spawner>(
     let mut dialogue = dialogue;
     let (base, path) = match path_for(alloc, &dialogue, query, stays) {
         Ok(path) => path,
-        Err(_) => return (Child::Talking(faults, dialogue), Err(Stop::Want)),
+        Err(_) => return (Child::Talking(dialogue), Err(Stop::Want)),
     };
     match dialogue.post(alloc, base, &path, &query.condition) {
-        Ok(()) => (Child::Talking(faults, dialogue), Ok(())),
+        Ok(()) => (Child::Talking(dialogue), Ok(())),
         Err(talk) => {
             spawner.finish(lane, dialogue.close());
-            (Child::Absent(faults + 1), Err(stop_of(talk)))
+            (Child::Lost, Err(stop_of(talk)))
         }
     }
 }
@@ -219,30 +204,28 @@ fn hear<K: Begun, W: Spawner>(
     alloc: Global,
     lane: u32,
     spawner: &mut W,
-    faults: u32,
     dialogue: Dialogue<W::Link>,
 ) -> (Child<W::Link>, Result<Reply, Stop<Cause>>)
-    requires few { faults ≤ further_starts }
     requires owed { 0 < W.owed spawner.old lane }
     requires asked { (events : List (Event Why)) × (q : Question)
-        × AsksOf W.Link.dialogue K.outset lane (Child.Talking faults dialogue) (hub W.starts W.owed W.ended W.faults W.steady spawner.old) events q }
+        × AsksOf W.Link.dialogue K.outset lane (Child.Talking dialogue) (hub W.starts W.owed W.ended W.faults W.steady spawner.old) events q }
     ensures held { (command : List (List ℕ)) (functions : List smt.Declared)
-        → IsHeld W.Link.steady W.Link.faults K.outset lane command functions (Child.Talking faults dialogue) (hub W.starts W.owed W.ended W.faults W.steady spawner.old)
+        → IsHeld W.Link.steady W.Link.faults K.outset lane command functions (Child.Talking dialogue) (hub W.starts W.owed W.ended W.faults W.steady spawner.old)
         → IsHeld W.Link.steady W.Link.faults K.outset lane command functions result.0 (hub W.starts W.owed W.ended W.faults W.steady spawner.new) }
     ensures told { IfOk result.1 (λ reply. (events : List (Event Why)) (q : Question)
-        → AsksOf W.Link.dialogue K.outset lane (Child.Talking faults dialogue) (hub W.starts W.owed W.ended W.faults W.steady spawner.old) events q
+        → AsksOf W.Link.dialogue K.outset lane (Child.Talking dialogue) (hub W.starts W.owed W.ended W.faults W.steady spawner.old) events q
         → TellsOf W.Link.dialogue K.outset lane result.0 (hub W.starts W.owed W.ended W.faults W.steady spawner.new) (events ++ event.Answered q reply ∷ [])) }
     ensures fault { IfErr result.1 (λ stop. IfFault stop (λ cause. (events : List (Event Why)) (q : Question)
-        → AsksOf W.Link.dialogue K.outset lane (Child.Talking faults dialogue) (hub W.starts W.owed W.ended W.faults W.steady spawner.old) events q
+        → AsksOf W.Link.dialogue K.outset lane (Child.Talking dialogue) (hub W.starts W.owed W.ended W.faults W.steady spawner.old) events q
         → TellsOf W.Link.dialogue K.outset lane result.0 (hub W.starts W.owed W.ended W.faults W.steady spawner.new) (events ++ event.Lost q cause ∷ []))) }
     ensures moved { Moved lane (hub W.starts W.owed W.ended W.faults W.steady spawner.old) (hub W.starts W.owed W.ended W.faults W.steady spawner.new) }
 {
     let mut dialogue = dialogue;
     match dialogue.take(alloc) {
-        Ok(reply) => (Child::Talking(faults, dialogue), Ok(reply)),
+        Ok(reply) => (Child::Talking(dialogue), Ok(reply)),
         Err(talk) => {
             spawner.finish(lane, dialogue.close());
-            (Child::Absent(faults + 1), Err(stop_of(talk)))
+            (Child::Lost, Err(stop_of(talk)))
         }
     }
 }
@@ -256,15 +239,16 @@ fn left<L: Link>(child: Child<L>) -> Child<L>
         → TellsOf L.dialogue o lane child h events → TellsOf L.dialogue o lane result h (events ++ event.Left ∷ []) }
 {
     match child {
-        Child::Talking(faults, dialogue) => {
+        Child::Talking(dialogue) => {
             let mut dialogue = dialogue;
             match dialogue.leave() {
-                Ok(()) => Child::Talking(faults, dialogue),
+                Ok(()) => Child::Talking(dialogue),
                 // Only a dialogue that has failed refuses it.
                 Err(_) => unreachable!(),
             }
         }
-        Child::Absent(faults) => Child::Absent(faults),
+        Child::NotStarted => Child::NotStarted,
+        Child::Lost => Child::Lost,
     }
 }
 
@@ -274,9 +258,9 @@ fn put<L: Link>(place: &mut Child<L>, child: Child<L>)
     ensures { place.new ≡ child }
 {
     match mem::replace(place, child) {
-        Child::Absent(_faults) => {}
+        Child::NotStarted | Child::Lost => {}
         // No link is out.
-        Child::Talking(_faults, _dialogue) => unreachable!(),
+        Child::Talking(_dialogue) => unreachable!(),
     }
 }
 
@@ -311,12 +295,10 @@ impl<'a, K: Begun, W: Spawner> Talker<Settled, W, Cause> for Line<'a, K, W::Link
         query: &Query,
         stays: bool,
     ) -> Result<(), Stop<Cause>> {
-        let child = mem::replace(&mut self.child, Child::Absent(0));
+        let child = mem::replace(&mut self.child, Child::Lost);
         match talking::<K, W>(alloc, self.lane, self.command, self.functions, hub, child) {
-            Ok((faults, dialogue)) => {
-                let (child, posted) = tell::<K, W>(
-                    alloc, self.lane, hub, faults, dialogue, query, stays,
-                );
+            Ok(dialogue) => {
+                let (child, posted) = tell::<K, W>(alloc, self.lane, hub, dialogue, query, stays);
                 put(&mut self.child, child);
                 posted
             }
@@ -333,14 +315,14 @@ impl<'a, K: Begun, W: Spawner> Talker<Settled, W, Cause> for Line<'a, K, W::Link
         _program: &Settled,
         hub: &mut W,
     ) -> Result<Reply, Stop<Cause>> {
-        match mem::replace(&mut self.child, Child::Absent(0)) {
-            Child::Talking(faults, dialogue) => {
-                let (child, reply) = hear::<K, W>(alloc, self.lane, hub, faults, dialogue);
+        match mem::replace(&mut self.child, Child::Lost) {
+            Child::Talking(dialogue) => {
+                let (child, reply) = hear::<K, W>(alloc, self.lane, hub, dialogue);
                 put(&mut self.child, child);
                 reply
             }
             // A question is open.
-            Child::Absent(_faults) => unreachable!(),
+            Child::NotStarted | Child::Lost => unreachable!(),
         }
     }
 
@@ -350,12 +332,12 @@ impl<'a, K: Begun, W: Spawner> Talker<Settled, W, Cause> for Line<'a, K, W::Link
         _program: &Settled,
         _hub: &mut W,
     ) -> Result<(), AllocError> {
-        let child = left(mem::replace(&mut self.child, Child::Absent(0)));
+        let child = left(mem::replace(&mut self.child, Child::Lost));
         put(&mut self.child, child);
         Ok(())
     }
 
-    // The link is handed back already; the lane's next question starts a further child.
+    // A lane has no further child.
     fn renew(
         &mut self,
         _alloc: Global,
@@ -397,7 +379,8 @@ pub fn end<K: Begun, W: Spawner>(line: Line<'_, K, W::Link>, spawner: &mut W)
         of: _,
     } = line;
     match child {
-        Child::Talking(_faults, dialogue) => spawner.finish(lane, dialogue.close()),
-        Child::Absent(_faults) => {}
+        Child::Talking(dialogue) => spawner.finish(lane, dialogue.close()),
+        Child::NotStarted => {}
+        Child::Lost => {}
     }
 }

@@ -6,8 +6,7 @@ ghost use Rattle.vx_resolved.specs.Settled.{settled};
 ghost use Rattle.vx_machine.specs.Runs.{awaits};
 ghost use Rattle.vx_verifier.specs.Lines.{has_line, lines_from};
 ghost use Rattle.vx_verifier.specs.Lanes as spec;
-ghost use Rattle.vx_verifier.specs.Causes.{faults_by, loses_child};
-ghost use Rattle.vx_verifier.specs.Members.{AreRuns, Begins, GoesTo, IsMember, child_behind, every, first_behind, run_of, some_list};
+ghost use Rattle.vx_verifier.specs.Members.{AreRuns, Begins, GoesTo, IsMember, every, run_of, some_list};
 ghost use Rattle.vx_verifier.specs.Steady.{AsksSpelled};
 
 use crate::outset::Begun;
@@ -75,30 +74,6 @@ fn has_line(kind: &Kind) -> bool
     }
 }
 
-// The child is lost by this verdict.
-fn loses_child(verdict: &Verdict) -> bool
-    ensures { result ≡ faults_by loses_child verdict.now }
-{
-    match verdict {
-        Verdict::Fault(Cause::Pipe) | Verdict::Fault(Cause::Reply(_)) => true,
-        Verdict::Fault(Cause::Start) | Verdict::Fault(Cause::Spent) => false,
-        Verdict::Verified | Verdict::Failed { .. } | Verdict::Rests(_) | Verdict::Limit => false,
-    }
-}
-
-// The child that is asked behind these runs, and the number of its next check; where they are too many for their numbers, there is none.
-fn place_behind(runs: &[MemberRun]) -> Option<(u32, u64)>
-    ensures { IfSome result (λ place. (place.0 ≡ child_behind 0 runs.now) × (place.1 ≡ first_behind 0 runs.now)) }
-{
-    let Some(last) = runs.last() else {
-        return Some((0, 0));
-    };
-    if loses_child(&last.verdict) {
-        return Some((last.child.checked_add(1)?, 0));
-    }
-    Some((last.child, last.first.checked_add(u64::from(last.checks))?))
-}
-
 impl<K: Begun> Members<K> {
     /// The worker of a lane, one of so many. None of its members is begun.
     pub fn new(alloc: Global, lane: u32, jobs: u32) -> Members<K>
@@ -144,7 +119,7 @@ impl<K: Begun> Members<K> {
 
     // A member is over.
     fn put(&mut self, machine: Machine, verdict: Verdict) -> Result<(), AllocError>
-        ensures run { OnOk result (self.new.runs.items ≡ self.old.runs.items ++ run_of self.old.lane (child_behind 0 self.old.runs.items) (first_behind 0 self.old.runs.items) machine verdict ∷ []) }
+        ensures run { OnOk result (self.new.runs.items ≡ self.old.runs.items ++ run_of self.old.lane (length self.old.replies.items) machine verdict ∷ []) }
         ensures replies { OnOk result (self.new.replies.items ≡ self.old.replies.items ++ machine.replies.items) }
         ensures lane { (self.new.lane ≡ self.old.lane) × (self.new.jobs ≡ self.old.jobs) × (self.new.next ≡ self.old.next) × (self.new.skip ≡ self.old.skip) }
         ensures stage { self.new.stage ≡ self.old.stage }
@@ -153,14 +128,11 @@ impl<K: Begun> Members<K> {
         let Ok(checks) = u32::try_from(machine.replies.len()) else {
             return Err(AllocError);
         };
-        let Some((child, first)) = place_behind(&self.runs) else {
-            return Err(AllocError);
-        };
         self.runs.push(MemberRun {
             member: machine.member,
             lane: self.lane,
-            child,
-            first,
+            child: 0,
+            first: self.replies.len() as u64,
             checks,
             verdict,
         })?;
@@ -178,7 +150,7 @@ impl<K: Begun> Members<K> {
     ) -> Result<Next, AllocError>
         requires awaited { awaits machine.phase ≡ is_some reply }
         requires member { IsMember (settled program.now) machine }
-        requires runs { AreRuns (settled program.now) self.old.lane 0 0 self.old.runs.items self.old.replies.items }
+        requires runs { AreRuns (settled program.now) self.old.lane 0 self.old.runs.items self.old.replies.items }
         requires spelled { AsksSpelled (settled program.now) }
         ensures goes { IfOk result (GoesTo (settled program.now) self.old.lane self.old.runs.items self.old.replies.items machine reply self.new.runs.items self.new.replies.items self.new.stage) }
         ensures lane { (self.new.lane ≡ self.old.lane) × (self.new.jobs ≡ self.old.jobs) × (self.new.next ≡ self.old.next) × (self.new.skip ≡ self.old.skip) }
@@ -202,7 +174,7 @@ impl<K: Begun> Members<K> {
     // The next member of the lane is begun, if there is one.
     fn begin(&mut self, alloc: Global, program: &Settled) -> Result<Next, AllocError>
         requires jobs { 1 ≤ self.old.jobs }
-        requires runs { AreRuns (settled program.now) self.old.lane 0 0 self.old.runs.items self.old.replies.items }
+        requires runs { AreRuns (settled program.now) self.old.lane 0 self.old.runs.items self.old.replies.items }
         requires spelled { AsksSpelled (settled program.now) }
         ensures begun { IfOk result (Begins (settled program.now) self.old.jobs self.old.lane self.old.next self.old.skip self.old.runs.items self.old.replies.items
             self.new.next self.new.skip self.new.runs.items self.new.replies.items self.new.stage) }

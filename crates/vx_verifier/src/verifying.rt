@@ -1,6 +1,6 @@
 //! The members of a program, dealt to lanes, each executed by the machine and its questions asked of the lane's child.
 
-ghost use Rattle.std.specs.Prelude.{◌≡◌, ℕ, ◌-◌, ◌<◌, ◌≤◌, nat_lt, ◌^◌, ⊤, List, false, IsTrue, IfOk, length, map, reverse};
+ghost use Rattle.std.specs.Prelude.{◌≡◌, ℕ, ◌-◌, ◌<◌, ◌≤◌, ◌^◌, ⊤, List, false, IsTrue, IfOk, length, map, reverse};
 ghost use Rattle.vx_smt_meaning.specs.Views.{declared_symbol};
 ghost use Rattle.vx_resolved.specs.Settled.{settled};
 ghost use Rattle.vx_report.specs.Reports.{AreNamed, RestWithin};
@@ -157,9 +157,9 @@ fn verify_members<W: Spawner, N: Turns>(
     ensures rests { IfOk result (λ runs. RestWithin (settled program.now) runs.items) }
     ensures headline { IfOk result (λ runs. Headline (settled program.now) jobs (W.ended spawner.old) (W.ended spawner.new)
         (W.faults spawner.old) (W.faults spawner.new) runs.items) }
-    ensures starts { Starts jobs command.now (W.starts spawner.old) (W.starts spawner.new) (λ lane tries. ⊤) }
+    ensures starts { Starts jobs command.now (W.starts spawner.old) (W.starts spawner.new) (λ lane started. ⊤) }
     ensures started { IfOk result (λ runs. Starts jobs command.now (W.starts spawner.old) (W.starts spawner.new)
-        (λ lane tries. nat_lt 0 tries ≡ some_ask (settled program.now) (members_of (runs_in lane runs.items)))) }
+        (λ lane started. started ≡ some_ask (settled program.now) (members_of (runs_in lane runs.items)))) }
     ensures handed_back { (lane : ℕ) → W.owed spawner.new lane ≡ W.owed spawner.old lane }
     ensures faults { W.faults spawner.old ≤ W.faults spawner.new }
     ensures later { Handed (W.ended spawner.old) (W.ended spawner.new) }
@@ -177,10 +177,9 @@ fn verify_members<W: Spawner, N: Turns>(
 }
 
 /// Verifies the members of a program that have a line, in so many lanes: member number i of them in lane i modulo `jobs`. Each lane
-/// has one child at a time: it is started at the lane's first question, if there is any, and anew at the next one behind a fault, at most
-/// three times; it is handed back where it is lost, else at the end, also where memory runs out. While children compute, others are
-/// asked and read; `turns` says which of those that wait is read next, and no clause speaks of what it says. The clause `headline` is
-/// the promise. No certificate is asked for so far.
+/// has one child, which is started at the lane's first question, if there is any, and handed back at the end, also where memory runs
+/// out. While children compute, others are asked and read; `turns` says which of those that wait is read next, and no clause speaks
+/// of what it says. The clause `headline` is the promise. No certificate is asked for so far.
 pub fn verify<W: Spawner, N: Turns>(
     alloc: Global,
     typed: &Typed,
@@ -196,9 +195,9 @@ pub fn verify<W: Spawner, N: Turns>(
     ensures named { IfOk result (λ v. AreNamed (resolved_of typed.now) v.runs.items) }
     ensures rests { IfOk result (λ v. RestWithin (resolved_of typed.now) v.runs.items) }
     ensures headline { IfOk result (λ v. Headline (resolved_of typed.now) jobs (W.ended spawner.old) (W.ended spawner.new) (W.faults spawner.old) (W.faults spawner.new) v.runs.items) }
-    ensures starts { Starts jobs command.now (W.starts spawner.old) (W.starts spawner.new) (λ lane tries. ⊤) }
+    ensures starts { Starts jobs command.now (W.starts spawner.old) (W.starts spawner.new) (λ lane started. ⊤) }
     ensures started { IfOk result (λ v. Starts jobs command.now (W.starts spawner.old) (W.starts spawner.new)
-        (λ lane tries. nat_lt 0 tries ≡ some_ask (resolved_of typed.now) (members_of (runs_in lane v.runs.items)))) }
+        (λ lane started. started ≡ some_ask (resolved_of typed.now) (members_of (runs_in lane v.runs.items)))) }
     ensures handed_back { (lane : ℕ) → W.owed spawner.new lane ≡ W.owed spawner.old lane }
     ensures faults { W.faults spawner.old ≤ W.faults spawner.new }
     ensures later { Handed (W.ended spawner.old) (W.ended spawner.new) }

@@ -1,4 +1,4 @@
-use Rattle.std.proofs.Common.{inl, inr, subst, rules}
+use Rattle.std.proofs.Common.{inl, inr, ◌∙◌, subst, rules}
 use Rattle.vx_ast.specs.Written.{written_program}
 use Rattle.vx_report.specs.declared.status.Status.TheVariants.{Refused}
 use Rattle.vx_commands.specs.Texts.{SaysRefused}

@@ -1,4 +1,4 @@
-use Rattle.std.proofs.Common.{◌≡◌, nat_lt, [], sym, subst, append-nil}
+use Rattle.std.proofs.Common.{◌≡◌, [], sym, subst, append-nil}
 use Rattle.vx_typing.specs.Typed.{resolved_of}
 use Rattle.vx_verifier.specs.Dealt.{Starts, runs_in}
 use Rattle.vx_verifier.specs.Going.{later_same}
@@ -28,5 +28,5 @@ verify_members-requires-clause-whole g c = subst IsWhole (sym c.in_ok-program.en
 pub returns-clause-started : goal.returns-clause-started
 returns-clause-started g c =
     let w = g.W.Spawner in
-    subst (λ p. Starts c.args.jobs c.args.command.now (w.starts c.args.spawner.now) (w.starts c.verify_members.new.spawner) (λ lane tries. nat_lt 0 tries ≡ some_ask p (members_of (runs_in lane c.in_ok-runs.runs.items))))
+    subst (λ p. Starts c.args.jobs c.args.command.now (w.starts c.args.spawner.now) (w.starts c.verify_members.new.spawner) (λ lane started. started ≡ some_ask p (members_of (runs_in lane c.in_ok-runs.runs.items))))
     c.in_ok-program.ensures c.in_ok-runs.ensures.started

@@ -12,12 +12,9 @@ use Rattle.vx_verifier.specs.declared.line.Child.TheVariants.{Talking}
 use Rattle.vx_verifier.specs.Lanes.{AsksOf, HearsOf, IsHeld, TellsOf}
 use Rattle.vx_verifier.specs.Outsets.{hub}
 use Rattle.vx_verifier.proofs.Children.{at_child, fault_on, stop_earlier}
-use Rattle.vx_verifier.proofs.Held.{few_before, is_owed}
+use Rattle.vx_verifier.proofs.Held.{is_owed}
 use Rattle.vx_verifier.proofs.Moved.{moved_more, moves_by}
 use Rattle.vx_verifier.proofs.line.LineLinkTalkerSettledCause.post.Goals as goal
-
-pub tell-child-requires-clause-few : goal.tell-child-requires-clause-few
-tell-child-requires-clause-few g c = few_before c.in-Ok.faults c.in-Ok.ensures.held.few
 
 pub tell-child-requires-clause-owed : goal.tell-child-requires-clause-owed
 tell-child-requires-clause-owed g c = is_owed (g.K.Begun.outset.first.owed c.args.self.now.lane) (g.W.Spawner.owed c.talking.new.spawner c.args.self.now.lane) c.in-Ok.ensures.held.owed
@@ -65,7 +62,7 @@ returns-in-Ok-clause-fault g c =
     let new = hub w.starts w.owed w.ended w.faults w.steady c.tell-child.new.spawner in
     let q = query c.args.query.now in
     stop_earlier c.tell-child.result.1
-    (λ x. (events : List (Event Cause)) → HearsOf l.dialogue o lane (Talking c.in-Ok.faults c.in-Ok.dialogue) between events → TellsOf l.dialogue o lane c.tell-child.result.0 new (events ++ event.Lost q x ∷ []))
+    (λ x. (events : List (Event Cause)) → HearsOf l.dialogue o lane (Talking c.in-Ok.dialogue) between events → TellsOf l.dialogue o lane c.tell-child.result.0 new (events ++ event.Lost q x ∷ []))
     (λ x. (events : List (Event Cause)) → TellsOf l.dialogue o lane c.args.self.now.child old events → TellsOf l.dialogue o lane c.put.new.place new (events ++ event.Lost q x ∷ []))
     (λ x told. λ log t. at_child l.dialogue o lane new (log ++ event.Lost q x ∷ []) c.tell-child.result.0 c.put.new.place (sym c.put.ensures)
     (told log (c.in-Ok.ensures.told log (at_child l.dialogue o lane old log c.args.self.now.child c.replace-child.result (sym c.replace-child.ensures.value) t)))) c.tell-child.ensures.fault

@@ -11,18 +11,9 @@ use Rattle.vx_verifier.specs.declared.line.Child.TheVariants.{Talking}
 use Rattle.vx_verifier.specs.Lanes.{AsksOf, IsHeld, TellsOf}
 use Rattle.vx_verifier.specs.Outsets.{hub}
 use Rattle.vx_verifier.proofs.Children.{at_child, stop_earlier}
-use Rattle.vx_verifier.proofs.Held.{few_before, is_owed}
+use Rattle.vx_verifier.proofs.Held.{is_owed}
 use Rattle.vx_verifier.proofs.Moved.{moves_by}
 use Rattle.vx_verifier.proofs.line.LineLinkTalkerSettledCause.take.Goals as goal
-
-pub hear-child-requires-clause-few : goal.hear-child-requires-clause-few
-hear-child-requires-clause-few g c =
-    let w = g.W.Spawner in
-    let l = g.W.Link.Link in
-    let self = c.args.self.now in
-    let held = subst (λ (x : Child _). IsHeld l.steady l.faults g.K.Begun.outset self.lane self.command.now (map declared_symbol self.functions.now) x (hub w.starts w.owed w.ended w.faults w.steady c.args.hub.now))
-    (sym c.replace.ensures.value ∙ c.in-Talking.is) c.requires.held in
-    few_before c.in-Talking.faults held.few
 
 pub hear-child-requires-clause-owed : goal.hear-child-requires-clause-owed
 hear-child-requires-clause-owed g c =
@@ -75,7 +66,7 @@ returns-clause-fault g c =
     let old = hub w.starts w.owed w.ended w.faults w.steady c.args.hub.now in
     let new = hub w.starts w.owed w.ended w.faults w.steady c.hear-child.new.spawner in
     stop_earlier c.hear-child.result.1
-    (λ x. (events : List (Event Cause)) (q : Question) → AsksOf l.dialogue o lane (Talking c.in-Talking.faults c.in-Talking.dialogue) old events q → TellsOf l.dialogue o lane c.hear-child.result.0 new (events ++ event.Lost q x ∷ []))
+    (λ x. (events : List (Event Cause)) (q : Question) → AsksOf l.dialogue o lane (Talking c.in-Talking.dialogue) old events q → TellsOf l.dialogue o lane c.hear-child.result.0 new (events ++ event.Lost q x ∷ []))
     (λ x. (events : List (Event Cause)) (q : Question) → AsksOf l.dialogue o lane c.args.self.now.child old events q → TellsOf l.dialogue o lane c.put.new.place new (events ++ event.Lost q x ∷ []))
     (λ x told. λ log q a. at_child l.dialogue o lane new (log ++ event.Lost q x ∷ []) c.hear-child.result.0 c.put.new.place (sym c.put.ensures)
     (told log q (subst (λ (y : Child _). AsksOf l.dialogue o lane y old log q) (sym c.replace.ensures.value ∙ c.in-Talking.is) a))) c.hear-child.ensures.fault

@@ -1,4 +1,4 @@
-use Rattle.std.proofs.Common.{◌∙◌, ap}
+use Rattle.std.proofs.Common.{◌≡◌, ◌∙◌, ap}
 use Rattle.vx_resolved.specs.Settled.{settled}
 use Rattle.vx_verifier.proofs.Beginnings.{member_first}
 use Rattle.vx_verifier.proofs.Begun.{begun_some}

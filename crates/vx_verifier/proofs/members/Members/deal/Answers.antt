@@ -1,4 +1,4 @@
-use Rattle.std.proofs.Common.{◌-◌, ◌+◌, ◌≤◌, ◌∙◌, ◌∷◌, ap, sym, drop, arith}
+use Rattle.std.proofs.Common.{◌≡◌, ◌-◌, ◌+◌, ◌≤◌, ◌∙◌, ◌∷◌, ap, sym, drop, arith}
 use Rattle.vx_resolved.specs.Settled.{settled}
 use Rattle.vx_verifier.specs.Lines.{lines_from}
 use Rattle.vx_verifier.specs.Members.{every}

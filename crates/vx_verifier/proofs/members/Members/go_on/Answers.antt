@@ -5,7 +5,7 @@ use Rattle.vx_machine.specs.Growth.{IsOpen, Stays}
 use Rattle.vx_machine.specs.Runs.{Shows, Told, given, member_tree}
 use Rattle.vx_pool.specs.declared.next.Next.TheVariants as step
 use Rattle.vx_verifier.specs.declared.members.Stage.TheVariants as stage'
-use Rattle.vx_verifier.specs.Members.{GoesTo, child_behind, first_behind, run_of}
+use Rattle.vx_verifier.specs.Members.{GoesTo, run_of}
 use Rattle.vx_verifier.proofs.Working.{goes_to_question, goes_to_end}
 use Rattle.vx_verifier.proofs.members.Members.go_on.Goals as goal
 
@@ -49,4 +49,4 @@ returns-in_ok-put-in-Done-clause-goes g c =
       opened = subst (IsOpen m'.phase) c.in-Done.is c.in_ok-query.ensures.open;
     }) in
     subst (λ rs. GoesTo p lane runs replies m c.args.reply rs c.put.new.self.replies.items stage'.Between step.Left) (sym c.in_ok-put-in-Done.ensures.run)
-    (subst (λ rs. GoesTo p lane runs replies m c.args.reply (runs ++ run_of lane (child_behind 0 runs) (first_behind 0 runs) m' v ∷ []) rs stage'.Between step.Left) (sym c.in_ok-put-in-Done.ensures.replies) goes)
+    (subst (λ rs. GoesTo p lane runs replies m c.args.reply (runs ++ run_of lane (length replies) m' v ∷ []) rs stage'.Between step.Left) (sym c.in_ok-put-in-Done.ensures.replies) goes)

@@ -1,5 +1,5 @@
-use Rattle.std.proofs.Common.{◌-◌, ◌∙◌, ap, sym, length}
-use Rattle.vx_verifier.specs.Members.{runs_events}
+use Rattle.std.proofs.Common.{◌≡◌, ◌-◌, ◌∙◌, ap, sym, subst, length}
+use Rattle.vx_verifier.specs.Members.{is_spent, runs_events}
 use Rattle.vx_verifier.proofs.Between.{amid, fewer_lost, fits_lost, lost_by, never_spent, told_lost}
 use Rattle.vx_verifier.proofs.members.MembersWorkerSettledCause.fault.Goals as goal
 

@@ -1,4 +1,4 @@
-use Rattle.std.proofs.Common.{◌-◌, ◌∙◌, IfOk, ap, sym, subst, length}
+use Rattle.std.proofs.Common.{◌≡◌, ◌-◌, ◌∙◌, IfOk, ap, sym, subst, length}
 use Rattle.std.proofs.lemmas.Result.{IfOk-weaker}
 use Rattle.vx_ast.specs.Syntax.{Program}
 use Rattle.vx_verifier.specs.Members.{AreRuns, Begins, GoesTo, IsMember}
@@ -14,7 +14,7 @@ begin-requires-clause-jobs g c =
 pub begin-requires-clause-runs : goal.begin-requires-clause-runs
 begin-requires-clause-runs g c =
     let old = c.args.self.now in
-    subst (λ (p : Program). AreRuns p old.lane 0 0 old.runs.items old.replies.items) (sym c.requires.fits.0)
+    subst (λ (p : Program). AreRuns p old.lane 0 old.runs.items old.replies.items) (sym c.requires.fits.0)
     (between g.K.Begun.outset.program old.jobs old.lane old.next old.skip old.runs.items old.replies.items old.stage c.requires.fits.3 (sym c.replace.ensures.value ∙ c.in-Between.is)).runs_are
 
 pub begin-requires-clause-spelled : goal.begin-requires-clause-spelled
@@ -83,7 +83,7 @@ go_on-requires-clause-member g c =
 pub go_on-requires-clause-runs : goal.go_on-requires-clause-runs
 go_on-requires-clause-runs g c =
     let old = c.args.self.now in
-    subst (λ (p : Program). AreRuns p old.lane 0 0 old.runs.items old.replies.items) (sym c.requires.fits.0)
+    subst (λ (p : Program). AreRuns p old.lane 0 old.runs.items old.replies.items) (sym c.requires.fits.0)
     (amid g.K.Begun.outset.program old.jobs old.lane old.next old.skip old.runs.items old.replies.items old.stage c.requires.fits.3 c.in-Asked.machine (sym c.replace.ensures.value ∙ c.in-Asked.is)).runs_are
 
 pub go_on-requires-clause-spelled : goal.go_on-requires-clause-spelled
